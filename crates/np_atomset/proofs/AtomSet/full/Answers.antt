@@ -1,0 +1,9 @@
+use Rattle.std.proofs.Common.{replicate, true}
+use Rattle.std.proofs.lemmas.List.{length-replicate}
+use Rattle.np_atomset.proofs.Held.{members-from_words}
+use Rattle.np_atomset.proofs.AtomSet.full.Goals as goal
+
+pub returns : goal.returns
+returns c =
+    members-from_words (replicate c.args.n true) c.in_ok-words.words.items c.args.n c.in_ok-words.ensures
+    (length-replicate c.args.n true)

@@ -1,0 +1,7 @@
+//! Whole runs over files and a sink in memory. Each worked case is a line of a table.
+#![tactic(auto)]
+
+#[cfg(test)]
+mod check;
+#[cfg(test)]
+mod runs;

@@ -1,0 +1,7 @@
+pub mod Calls
+pub mod Counts
+pub mod Files
+pub mod MemFiles
+pub mod MemShelf
+pub mod MemSink
+pub mod Texts

@@ -1,0 +1,20 @@
+-- Texts that are made of words: each line's words joined by one space.
+use Rattle.std.specs.Prelude.{ℕ, ◌==◌, ◌&&◌, not, Bool, nat_lt, List, [], ◌∷◌, ◌++◌, length, if◌then◌else◌}
+use Rattle.std.specs.List.{flat_map, list_all, join_with_byte}
+use Rattle.np_text.specs.Words.{is_blank}
+
+-- neither blank nor a line end
+abbrev pub is_word_byte : ℕ → Bool
+is_word_byte b = not (is_blank b) && not (b == 10)
+
+-- such bytes, at least one
+abbrev pub is_word : List ℕ → Bool
+is_word word = nat_lt 0 (length word) && list_all is_word_byte word
+
+-- words joined by one space; where indented is true, one space stands in front of them
+abbrev pub joined_line : Bool → List (List ℕ) → List ℕ
+joined_line indented words = if indented then 32 ∷ join_with_byte 32 words else join_with_byte 32 words
+
+-- such lines, each ended by the byte 10
+abbrev pub joined_text : List (Bool × List (List ℕ)) → List ℕ
+joined_text lines = flat_map (λ line. joined_line line.0 line.1 ++ 10 ∷ []) lines

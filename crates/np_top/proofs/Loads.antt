@@ -1,0 +1,57 @@
+-- What loading gives at the exit of a failed call.
+use Rattle.std.proofs.Common.{◌≡◌, ℕ, ◌<◌, Bool, List, [], ◌∷◌, ◌++◌, append_assoc, length, ltb, Option, Some, None, Result, Ok, Err, refl, arith, sym, ◌∙◌, ap, cond}
+use Rattle.std.proofs.lemmas.Bool.{lt-ltb}
+use Rattle.std.specs.Prelude.{IsErrOf, IsSomeAnd, IsSome}
+use Rattle.std.specs.Option.{option_map}
+use Rattle.std.specs.FinMap.{get}
+use Rattle.np_outside.specs.Files.{Files}
+use Rattle.np_top.specs.declared.load.Halt.{Halt}
+use Rattle.np_top.specs.declared.load.Halt.TheVariants as halts
+use Rattle.np_top.specs.Limits.{file_limit}
+use Rattle.np_top.specs.Loading.{Loads}
+use Rattle.np_top.specs.Outcome.{file_says, or_refused, and_then}
+use Rattle.np_top.specs.Report.{too_long_text}
+
+long_says : {X : Type 0} (reading : List ℕ → Result X ℕ) (file text : List ℕ) (found : Option (List ℕ)) →
+    text ≡ too_long_text file → IsSomeAnd found (λ bytes. file_limit < length bytes) →
+    option_map (λ bytes. cond (ltb file_limit (length bytes)) (Err (too_long_text file)) (or_refused file (reading bytes))) found ≡ Some (Err text)
+long_says reading file text None is long = absurd long
+long_says reading file text (Some bytes) is long =
+    ap (λ b. Some (cond b (Err (too_long_text file)) (or_refused file (reading bytes)))) (lt-ltb _ _ long) ∙ ap (λ t. Some (Err t)) (sym is)
+
+-- a halt before the bytes are read is what the file says, however they would be read
+pub bytes_halt : {X Y : Type 0} (reading : List ℕ → Result X ℕ) (files : Files) (file : List ℕ) (halt : Halt) →
+    ((text : List ℕ) → IsErrOf {T = Y} (Err halt) (halts.Refused text) → (text ≡ too_long_text file) × IsSomeAnd (get files file) (λ bytes. file_limit < length bytes)) →
+    Loads (Err halt) (file_says reading files file)
+bytes_halt reading files file (halts.Refused text) refused = let h = refused text refl in long_says reading file text (get files file) h.0 h.1
+bytes_halt reading files file halts.ReadFault refused = tt
+bytes_halt reading files file halts.Memory refused = tt
+
+-- what is said with these items in front
+abbrev pub behind : {X : Type 0} → List X → Option (Result (List X) (List ℕ)) → Option (Result (List X) (List ℕ))
+behind front says = and_then says (λ xs. Some (Ok (front ++ xs)))
+
+pub behind-none : {X : Type 0} (says : Option (Result (List X) (List ℕ))) → behind [] says ≡ says
+behind-none None = refl
+behind-none (Some (Err text)) = refl
+behind-none (Some (Ok xs)) = refl
+
+-- one more item in front
+pub behind-more : {X : Type 0} (front : List X) (x : X) (rest : Option (Result (List X) (List ℕ))) →
+    behind front (and_then rest (λ xs. Some (Ok (x ∷ xs)))) ≡ behind (front ++ x ∷ []) rest
+behind-more front x None = refl
+behind-more front x (Some (Err text)) = refl
+behind-more front x (Some (Ok xs)) = ap (λ zs. Some (Ok zs)) (sym (append_assoc front (x ∷ []) xs))
+
+-- a halt at a device is what all devices say
+pub device_halt : {X : Type 0} (front : List X) (one : Option (Result X (List ℕ))) (rest : Option (Result (List X) (List ℕ))) (halt : Halt) →
+    Loads {X = X} (Err halt) one → Loads {X = List X} (Err halt) (behind front (and_then one (λ x. and_then rest (λ xs. Some (Ok (x ∷ xs))))))
+device_halt front one rest (halts.Refused text) is = rw is refl
+device_halt front one rest halts.ReadFault is = tt
+device_halt front one rest halts.Memory is = tt
+
+-- all devices say something only where each does
+pub device_said : {X : Type 0} (front : List X) (one : Option (Result X (List ℕ))) (rest : X → Option (Result (List X) (List ℕ))) →
+    IsSome (behind front (and_then one rest)) → IsSome one
+device_said front None rest said = said
+device_said front (Some r) rest said = refl

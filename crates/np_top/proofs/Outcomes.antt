@@ -1,0 +1,113 @@
+-- The outcome of a run: that there is one at most, and how a run's text comes to be it.
+use Rattle.std.proofs.Common.{◌≡◌, ◌≢◌, ℕ, ◌<◌, ◌⊎◌, inl, inr, Bool, true, false, cond, List, length, take, get_or, Option, Some, None, Result, Ok, Err, refl, arith, sym, ◌∙◌, ap, subst}
+use Rattle.std.proofs.lemmas.List.{ext_get_or}
+use Rattle.std.specs.Prelude.{MatchOption, IsSome}
+use Rattle.np_outside.specs.Files.{Files}
+use Rattle.np_top.specs.declared.network.Goal.{Goal}
+use Rattle.np_top.specs.declared.network.Network.{Network}
+use Rattle.np_top.specs.declared.config.Config.{Config}
+use Rattle.np_top.specs.declared.load.Inputs.{Inputs}
+use Rattle.np_top.specs.declared.status.Status.{Status}
+use Rattle.np_top.specs.declared.status.Status.TheVariants.{Holds, Fails, Usage, Refused, ReadFault, WriteFault, Memory}
+use Rattle.np_top.specs.Goals.{IsVerdict, AreVerdicts, goal_at}
+use Rattle.np_top.specs.Report.{IsReport, usage_text, verdicts_text, verdicts_status}
+use Rattle.np_top.specs.Outcome.{command_of, inputs_of, IsAnswer, IsOutcome, IsDefined, IsOneOutcome}
+use Rattle.np_top.specs.Status.{IsSettled, IsUnlessFault}
+use Rattle.np_top.specs.Written.{Took, TookPrefix}
+
+-- a goal that holds isn't violated
+one_verdict : (net : Network) (configs : List Config) (goal : Goal) (v w : Bool) → IsVerdict net configs goal v → IsVerdict net configs goal w → v ≡ w
+one_verdict net configs goal true true a b = refl
+one_verdict net configs goal true false a b = absurd (a b.hops b.header b.path b.forbidden b.carries)
+one_verdict net configs goal false true a b = absurd (b a.hops a.header a.path a.forbidden a.carries)
+one_verdict net configs goal false false a b = refl
+
+one_verdicts : (net : Network) (configs : List Config) (vs ws : List Bool) → AreVerdicts net configs vs → AreVerdicts net configs ws → vs ≡ ws
+one_verdicts net configs vs ws a b =
+    ext_get_or false vs ws (a.len ∙ sym b.len) (λ n within.
+      let here : n < length net.goals = omega arith in
+      one_verdict net configs (goal_at net.goals n) _ _ (a.each n here) (b.each n here))
+
+-- the same text and the same status
+abbrev pub Same : List ℕ → Status → List ℕ → Status → Type 0
+Same text status other_text other_status = (text ≡ other_text) × (status ≡ other_status)
+
+one_report : (net : Network) (configs : List Config) (s t : List ℕ) (x y : Status) → IsReport net configs s x → IsReport net configs t y → Same s x t y
+one_report net configs s t x y a b =
+    let same : a.verdicts ≡ b.verdicts = one_verdicts net configs a.verdicts b.verdicts a.right b.right in
+    (a.text_is ∙ ap verdicts_text same ∙ sym b.text_is, a.status_is ∙ ap verdicts_status same ∙ sym b.status_is)
+
+one_answer : (inputs : Option (Result Inputs (List ℕ))) (s t : List ℕ) (x y : Status) → IsAnswer inputs s x → IsAnswer inputs t y → Same s x t y
+one_answer None s t x y a b = absurd a
+one_answer (Some (Err refusal)) s t x y a b = (a.0 ∙ sym b.0, a.1 ∙ sym b.1)
+one_answer (Some (Ok inputs)) s t x y a b = one_report inputs.net inputs.configs s t x y a b
+
+-- two outcomes of the same words and files are the same text and status
+pub one_outcome : (words : List (List ℕ)) (files : Files) (s t : List ℕ) (x y : Status) → IsOutcome words files s x → IsOutcome words files t y → Same s x t y
+one_outcome words files s t x y a b = one_for (command_of words) a b where
+  one_for : (command : Option (List ℕ)) → MatchOption command ((s ≡ usage_text) × (x ≡ Usage)) (λ file. IsAnswer (inputs_of files file) s x) →
+      MatchOption command ((t ≡ usage_text) × (y ≡ Usage)) (λ file. IsAnswer (inputs_of files file) t y) → Same s x t y
+  one_for None a b = (a.0 ∙ sym b.0, a.1 ∙ sym b.1)
+  one_for (Some file) a b = one_answer (inputs_of files file) s t x y a b
+
+defined_by : (inputs : Option (Result Inputs (List ℕ))) (text : List ℕ) (status : Status) → IsAnswer inputs text status → IsSome inputs
+defined_by None text status answer = absurd answer
+defined_by (Some says) text status answer = refl
+
+-- an outcome needs its files
+pub outcome_defined : (words : List (List ℕ)) (files : Files) (text : List ℕ) (status : Status) → IsOutcome words files text status → IsDefined words files
+outcome_defined words files text status outcome = defined_for (command_of words) outcome where
+  defined_for : (command : Option (List ℕ)) → MatchOption command ((text ≡ usage_text) × (status ≡ Usage)) (λ file. IsAnswer (inputs_of files file) text status) →
+      MatchOption command (Unit {0}) (λ file. IsSome (inputs_of files file))
+  defined_for None outcome = tt
+  defined_for (Some file) outcome = defined_by (inputs_of files file) text status outcome
+
+pub is_one_outcome : IsOneOutcome
+is_one_outcome = record {
+  same_text = λ words files text other status own a b. (one_outcome words files text other status own a b).0;
+  same_status = λ words files text other status own a b. (one_outcome words files text other status own a b).1;
+  defined = outcome_defined;
+}
+
+-- the outcome of words that fit no command
+pub usage_outcome : (words : List (List ℕ)) (files : Files) → None ≡ command_of words → IsOutcome words files usage_text Usage
+usage_outcome words files fits = rw (← fits) (refl, refl)
+
+-- the outcome of `check`
+pub check_outcome : (words : List (List ℕ)) (files : Files) (file text : List ℕ) (status : Status) → Some file ≡ command_of words →
+    IsAnswer (inputs_of files file) text status → IsOutcome words files text status
+check_outcome words files file text status fits answer = rw (← fits) answer
+
+-- a status is its own, unless a device or memory fails
+pub is_unless_fault : (status : Status) → IsUnlessFault status status
+is_unless_fault Holds = refl
+is_unless_fault Fails = refl
+is_unless_fault Usage = refl
+is_unless_fault Refused = refl
+is_unless_fault ReadFault = tt
+is_unless_fault WriteFault = tt
+is_unless_fault Memory = tt
+
+-- what became of a text that was to be written with this status
+abbrev pub IsWritten : Option (List ℕ) → Option (List ℕ) → List ℕ → Status → Type 0 → Status → Type 0
+IsWritten old new text status Fault result = ((result ≡ status) × Took old new text) ⊎ ((result ≡ WriteFault) × TookPrefix old new text × Fault)
+
+pub written_whole : (words : List (List ℕ)) (files : Files) (text : List ℕ) (status result : Status) (old new : Option (List ℕ)) (Fault : Type 0) →
+    IsOutcome words files text status → IsWritten old new text status Fault result → IsSettled result →
+    (whole : List ℕ) × IsOutcome words files whole result × Took old new whole
+written_whole words files text status result old new Fault outcome (inl w) settled = (text, subst (λ s. IsOutcome words files text s) (sym w.0) outcome, w.1)
+written_whole words files text status result old new Fault outcome (inr w) settled = absurd (subst IsSettled w.0 settled)
+
+pub written_part : (words : List (List ℕ)) (files : Files) (text : List ℕ) (status result : Status) (old new : Option (List ℕ)) (Fault : Type 0) →
+    IsOutcome words files text status → IsSettled status → IsWritten old new text status Fault result → result ≡ WriteFault →
+    (whole : List ℕ) × (own : Status) × IsOutcome words files whole own × TookPrefix old new whole
+written_part words files text status result old new Fault outcome settled (inl w) is = absurd (subst IsSettled (sym w.0 ∙ is) settled)
+written_part words files text status result old new Fault outcome settled (inr w) is = (text, status, outcome, w.1)
+
+pub written_only : (words : List (List ℕ)) (files : Files) (text : List ℕ) (status result : Status) (old new : Option (List ℕ)) (Fault : Type 0) →
+    IsOutcome words files text status → IsWritten old new text status Fault result →
+    (other : List ℕ) (own : Status) → IsOutcome words files other own → IsUnlessFault own result
+written_only words files text status result old new Fault outcome (inl w) other own is =
+    let same : status ≡ own = (one_outcome words files text other status own outcome is).1 in
+    subst (λ s. IsUnlessFault own s) (sym (w.0 ∙ same)) (is_unless_fault own)
+written_only words files text status result old new Fault outcome (inr w) other own is = subst (λ s. IsUnlessFault own s) (sym w.0) tt

@@ -1,0 +1,69 @@
+-- Words and the names that they may be.
+use Rattle.std.specs.Prelude.{ℕ, Bool, true, false, ◌&&◌, ◌||◌, not, ◌==◌, nat_le, List, [], ◌∷◌, length, Option, Some, None, is_some, codes, if◌then◌else◌, map}
+use Rattle.std.specs.List.{list_all, slice_split}
+use Rattle.std.specs.Char.{is_ascii_alphabetic, is_ascii_digit}
+use Rattle.std.specs.Str.{bytes_eq}
+use Rattle.std.specs.Option.{option_map}
+use Rattle.std.specs.Borrow.{Bor}
+use Rattle.np_text.specs.Numbers.{number_of}
+use Rattle.np_text.specs.Addresses.{prefix_of}
+use Rattle.np_top.specs.declared.network.Protocols.{Protocols}
+use Rattle.np_top.specs.declared.network.Protocols.TheVariants.{Any, One}
+
+-- the words, each as the bytes that it has
+abbrev pub texts : List (Bor (List ℕ)) → List (List ℕ)
+texts words = map (λ word. word.now) words
+
+-- a byte of a network's text: a printable character, a tab or a carriage return
+abbrev pub is_text_byte : ℕ → Bool
+is_text_byte b = (nat_le 32 b && nat_le b 126) || b == 9 || b == 13
+
+-- a letter, a digit, or one of `-`, `_` and `.`
+abbrev pub is_name_byte : ℕ → Bool
+is_name_byte b = is_ascii_alphabetic b || is_ascii_digit b || b == 45 || b == 95 || b == 46
+
+-- a byte of a name, or one of `/` and `:`
+abbrev pub is_interface_byte : ℕ → Bool
+is_interface_byte b = is_name_byte b || b == 47 || b == 58
+
+-- a letter, and then these bytes, 64 at most in all
+abbrev pub is_named_by : (ℕ → Bool) → List ℕ → Bool
+is_named_by may [] = false
+is_named_by may (b ∷ bs) = is_ascii_alphabetic b && list_all may bs && nat_le (length (b ∷ bs)) 64
+
+-- the name of an area or a device
+abbrev pub is_name : List ℕ → Bool
+is_name word = is_named_by is_name_byte word && not (bytes_eq word (codes "none"))
+
+-- the name of an interface
+abbrev pub is_interface_name : List ℕ → Bool
+is_interface_name word = is_named_by is_interface_byte word
+
+-- `none`, or prefixes joined by commas
+abbrev pub are_addresses : List ℕ → Bool
+are_addresses word = bytes_eq word (codes "none") || list_all (λ part. is_some (prefix_of part)) (slice_split (λ b. b == 44) word)
+
+-- the protocol that a keyword names
+abbrev pub keyword_protocol : List ℕ → Option ℕ
+keyword_protocol word =
+    if bytes_eq word (codes "icmp") then Some 1 else
+    (if bytes_eq word (codes "tcp") then Some 6 else
+    (if bytes_eq word (codes "udp") then Some 17 else None))
+
+-- a predicate's words: `any`, `icmp`, `tcp`, `udp`, or `proto` and a number up to 255
+abbrev pub predicate_of : List (List ℕ) → Option Protocols
+predicate_of [] = None
+predicate_of (word ∷ []) = if bytes_eq word (codes "any") then Some Any else option_map One (keyword_protocol word)
+predicate_of (word ∷ value ∷ []) = if bytes_eq word (codes "proto") then option_map One (number_of value 255) else None
+predicate_of (word ∷ value ∷ more ∷ rest) = None
+
+-- an entry's protocol: `ip`, `icmp`, `tcp`, `udp` or a number up to 255
+abbrev pub entry_protocol : List ℕ → Option Protocols
+entry_protocol word =
+    if bytes_eq word (codes "ip") then Some Any else
+    (if is_some (keyword_protocol word) then option_map One (keyword_protocol word) else option_map One (number_of word 255))
+
+-- these protocols have this one
+abbrev pub protocols_have : Protocols → ℕ → Bool
+protocols_have Any p = true
+protocols_have (One q) p = p == q

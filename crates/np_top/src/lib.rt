@@ -1,0 +1,23 @@
+//! The program's commands.
+#![tactic(auto)]
+
+mod config;
+mod config_text;
+mod entries;
+mod filter;
+mod judge;
+mod laws;
+mod load;
+mod net_text;
+mod network;
+mod reach;
+mod reader_error;
+mod report;
+mod statements;
+mod status;
+mod tokens;
+mod top;
+
+pub use laws::one_outcome;
+pub use status::Status;
+pub use top::run;

@@ -1,0 +1,38 @@
+//! How a run ends.
+
+/// How a run ended. Its number is the program's exit status.
+#[derive(Clone, Copy, Debug, PartialEq, Eq)]
+pub enum Status {
+    /// 0: the report is written, and all goals hold.
+    Holds,
+
+    /// 1: the report is written, and a goal is violated.
+    Fails,
+
+    /// 2: the words fit no command; `usage` is written.
+    Usage,
+
+    /// 3: an input file is too long or has a line that is refused; the refusal's line is written.
+    Refused,
+
+    /// 4: a file could not be read; nothing is written.
+    ReadFault,
+
+    /// 5: the text could not be written whole; a proper prefix of it is written.
+    WriteFault,
+
+    /// 6: there was no memory; nothing is written.
+    Memory,
+}
+
+impl Status {
+    ghost use Rattle.std.specs.Prelude.{◌≡◌};
+    ghost use Rattle.np_top.specs.Status.{number_of};
+
+    /// The exit status of the program, 0 to 6.
+    pub fn number(self) -> u8
+        ensures { result ≡ number_of self }
+    {
+        self as u8
+    }
+}

@@ -1,0 +1,177 @@
+//! Words and the names that they may be.
+
+ghost use Rattle.std.specs.Prelude.{◌≡◌, ◌==◌, is_some};
+ghost use Rattle.std.specs.Option.{option_map};
+ghost use Rattle.std.specs.List.{list_all, slice_split};
+ghost use Rattle.np_text.specs.Addresses.{prefix_of};
+ghost use Rattle.np_text.specs.Numbers.{number_of};
+ghost use Rattle.np_top.specs.declared.network.Protocols.TheVariants.{One};
+ghost use Rattle.np_top.specs.Tokens as tokens;
+
+use crate::network::Protocols;
+use np_text::{number, prefix};
+
+/// The bytes of a name, at most.
+const NAME_LIMIT: usize = 64;
+
+pub fn is_text_byte(byte: u8) -> bool
+    ensures { result ≡ tokens.is_text_byte byte }
+{
+    (32 <= byte && byte <= 126) || byte == b'\t' || byte == b'\r'
+}
+
+/// Whether each byte of a line may stand in a network's text.
+pub fn is_text(line: &[u8]) -> bool
+    ensures { result ≡ list_all tokens.is_text_byte line.now }
+{
+    line.iter().all(|byte| is_text_byte(*byte))
+}
+
+fn is_name_byte(byte: u8) -> bool
+    ensures { result ≡ tokens.is_name_byte byte }
+{
+    byte.is_ascii_alphabetic()
+        || byte.is_ascii_digit()
+        || byte == b'-'
+        || byte == b'_'
+        || byte == b'.'
+}
+
+fn is_interface_byte(byte: u8) -> bool
+    ensures { result ≡ tokens.is_interface_byte byte }
+{
+    is_name_byte(byte) || byte == b'/' || byte == b':'
+}
+
+fn are_name_bytes(bytes: &[u8]) -> bool
+    ensures { result ≡ list_all tokens.is_name_byte bytes.now }
+{
+    bytes.iter().all(|byte| is_name_byte(*byte))
+}
+
+fn are_interface_bytes(bytes: &[u8]) -> bool
+    ensures { result ≡ list_all tokens.is_interface_byte bytes.now }
+{
+    bytes.iter().all(|byte| is_interface_byte(*byte))
+}
+
+/// Whether a word may name an interface.
+pub fn is_interface_name(word: &[u8]) -> bool
+    ensures { result ≡ tokens.is_interface_name word.now }
+{
+    let [first, rest @ ..] = word else {
+        return false;
+    };
+    first.is_ascii_alphabetic() && are_interface_bytes(rest) && word.len() <= NAME_LIMIT
+}
+
+/// Whether a word has the form of a name.
+fn is_named(word: &[u8]) -> bool
+    ensures { result ≡ tokens.is_named_by tokens.is_name_byte word.now }
+{
+    let [first, rest @ ..] = word else {
+        return false;
+    };
+    first.is_ascii_alphabetic() && are_name_bytes(rest) && word.len() <= NAME_LIMIT
+}
+
+/// Whether a word may name an area or a device.
+pub fn is_name(word: &[u8]) -> bool
+    ensures { result ≡ tokens.is_name word.now }
+{
+    is_named(word) && word != b"none".as_slice()
+}
+
+/// Whether a word is prefixes joined by commas.
+fn are_prefixes(word: &[u8]) -> bool
+    ensures { result ≡ list_all (λ part. is_some (prefix_of part)) (slice_split (λ b. b == 44) word.now) }
+{
+    word.split(|byte| *byte == b',')
+        .all(|part| prefix(part).is_some())
+}
+
+/// Whether a word gives an area's addresses.
+pub fn are_addresses(word: &[u8]) -> bool
+    ensures { result ≡ tokens.are_addresses word.now }
+{
+    word == b"none".as_slice() || are_prefixes(word)
+}
+
+/// The protocol that a keyword names.
+fn keyword_protocol(word: &[u8]) -> Option<u8>
+    ensures { result ≡ tokens.keyword_protocol word.now }
+{
+    if word == b"icmp".as_slice() {
+        return Some(1);
+    }
+    if word == b"tcp".as_slice() {
+        return Some(6);
+    }
+    if word == b"udp".as_slice() {
+        return Some(17);
+    }
+    None
+}
+
+/// The protocol of a number up to 255.
+fn numbered_protocol(word: &[u8]) -> Option<Protocols>
+    ensures { result ≡ option_map One (number_of word.now 255) }
+{
+    let number = number(word, 255)?;
+    Some(Protocols::One(number as u8))
+}
+
+/// The protocol of a keyword.
+fn named_protocol(word: &[u8]) -> Option<Protocols>
+    ensures { result ≡ option_map One (tokens.keyword_protocol word.now) }
+{
+    Some(Protocols::One(keyword_protocol(word)?))
+}
+
+/// What the words of a predicate stand for.
+pub fn predicate(words: &[&[u8]]) -> Option<Protocols>
+    ensures { result ≡ tokens.predicate_of (tokens.texts words.now) }
+{
+    match words {
+        [word] => {
+            if *word == b"any".as_slice() {
+                Some(Protocols::Any)
+            } else {
+                named_protocol(word)
+            }
+        }
+        [word, value] => {
+            if *word == b"proto".as_slice() {
+                numbered_protocol(value)
+            } else {
+                None
+            }
+        }
+        _ => None,
+    }
+}
+
+/// What an entry's protocol word stands for.
+pub fn entry_protocol(word: &[u8]) -> Option<Protocols>
+    ensures { result ≡ tokens.entry_protocol word.now }
+{
+    if word == b"ip".as_slice() {
+        return Some(Protocols::Any);
+    }
+    if let Some(protocol) = keyword_protocol(word) {
+        return Some(Protocols::One(protocol));
+    }
+    numbered_protocol(word)
+}
+
+impl Protocols {
+    /// Whether a protocol is one of these.
+    pub fn have(self, protocol: u8) -> bool
+        ensures { result ≡ tokens.protocols_have self protocol }
+    {
+        match self {
+            Protocols::Any => true,
+            Protocols::One(one) => protocol == one,
+        }
+    }
+}

@@ -1,0 +1,151 @@
+//! A whole run, from its words to the bytes that it writes.
+
+ghost use Rattle.std.specs.Prelude.{◌≡◌, ◌≢◌, ◌≤◌, ◌<◌, ◌⊎◌, ◌++◌, ℕ, List, Some, None, IfOk, IsErrOf, IsSome, IsNone, length, take};
+ghost use Rattle.std.specs.Option.{option_copied};
+ghost use Rattle.np_outside.specs.Counts.{Rose};
+ghost use Rattle.np_outside.specs.Files.{Files};
+ghost use Rattle.np_top.specs.declared.top.Fault.TheVariants as faults;
+ghost use Rattle.np_top.specs.Outcome.{command_of, texts_of, inputs_of, IsAnswer, IsOutcome, IsDefined};
+ghost use Rattle.np_top.specs.Report.{usage_text, IsReport};
+ghost use Rattle.np_top.specs.Status.{IsSettled, IsUnlessFault};
+ghost use Rattle.np_top.specs.Written.{Took, TookPrefix};
+
+use crate::judge::judge;
+use crate::load::{Halt, load};
+use crate::report::{Answer, report};
+use crate::status::Status;
+use np_outside::{Shelf, Sink, write_all};
+use std::alloc::{AllocError, Global};
+use std::thread::Threads;
+
+/// The network's file, where the words are `check` and a file's name.
+fn command(words: &[String]) -> Option<&[u8]>
+    ensures { option_copied result ≡ command_of (texts_of words.now) }
+{
+    match words {
+        [word, file] if word.as_str() == "check" => Some(file.as_bytes()),
+        _ => None,
+    }
+}
+
+/// Why nothing is written.
+#[derive(Clone, Copy)]
+enum Fault {
+    /// A file could not be read.
+    Read,
+
+    /// There was no memory.
+    Memory,
+}
+
+impl From<AllocError> for Fault {
+    ghost from_gives = { λ _ e. e ≡ faults.Memory };
+
+    fn from(_e: AllocError) -> Fault {
+        Fault::Memory
+    }
+}
+
+/// The answer to `check`: the report, or the line that refuses a file.
+fn check<S: Shelf>(alloc: Global, shelf: &mut S, file: &[u8]) -> Result<Answer, Fault>
+    ensures ok { IfOk result (λ answer. (files : Files) → S.files shelf.old ≡ Some files → IsAnswer (inputs_of files file.now) answer.text answer.status) }
+    ensures settled { IfOk result (λ answer. IsSettled answer.status × (answer.status ≢ Status.Usage)) }
+
+    ensures failed { IsErrOf result Fault.Read → Rose (S.faults shelf.old) (S.faults shelf.new) }
+    ensures broken { IsErrOf result Fault.Read → (files : Files) → S.files shelf.old ≡ Some files →
+        IsSome (inputs_of files file.now) → Rose (S.breaks shelf.old) (S.breaks shelf.new) }
+    ensures files { S.files shelf.new ≡ S.files shelf.old }
+    ensures cap { S.cap shelf.new ≡ S.cap shelf.old }
+    ensures grows { S.faults shelf.old ≤ S.faults shelf.new }
+    ensures breaks_grow { S.breaks shelf.old ≤ S.breaks shelf.new }
+{
+    match load(alloc, shelf, file) {
+        Ok(inputs) => {
+            let verdicts = judge(alloc, &inputs.net, inputs.configs.as_slice())?;
+            Ok(report(alloc, verdicts.as_slice())?)
+        }
+        Err(Halt::Refused(text)) => Ok(Answer {
+            text,
+            status: Status::Refused,
+        }),
+        Err(Halt::ReadFault) => Err(Fault::Read),
+        Err(Halt::Memory) => Err(Fault::Memory),
+    }
+}
+
+/// Writes a text, and answers the status that goes with it.
+fn write<K: Sink>(sink: &mut K, text: &[u8], status: Status) -> Status
+    ensures written { (result ≡ status) × Took (K.taken sink.old) (K.taken sink.new) text.now ⊎
+        (result ≡ Status.WriteFault) × TookPrefix (K.taken sink.old) (K.taken sink.new) text.now × Rose (K.faults sink.old) (K.faults sink.new) }
+    ensures grows { K.faults sink.old ≤ K.faults sink.new }
+    ensures cap { K.cap sink.new ≡ K.cap sink.old }
+    ensures room { K.room sink.new ≡ K.room sink.old }
+{
+    match write_all(sink, text) {
+        Ok(()) => status,
+        Err(_) => Status::WriteFault,
+    }
+}
+
+/// Runs the command that the words name, without the program's name, over the files of the shelf, and writes its text
+/// to the sink.
+///
+/// The command is `check NET`: it reads the file NET and then the configuration of each of its devices, and writes a
+/// verdict on each goal.
+pub fn run<R: Threads + Sync, S: Shelf, K: Sink>(
+    rt: &R,
+    alloc: Global,
+    words: &[String],
+    shelf: &mut S,
+    sink: &mut K,
+) -> Status
+    // With status 0 to 3 the text written and the status are the outcome of the words and the files.
+    ensures outcome { IsSettled result → (files : Files) → S.files shelf.old ≡ Some files →
+        (text : List ℕ) × IsOutcome (texts_of words.now) files text result × Took (K.taken sink.old) (K.taken sink.new) text }
+    // Where they have an outcome, no other status comes than its own, unless a device or memory fails.
+    ensures only { (files : Files) (text : List ℕ) (status : Status) → S.files shelf.old ≡ Some files →
+        IsOutcome (texts_of words.now) files text status → IsUnlessFault status result }
+
+    // `Usage` comes exactly where the words fit no command, unless the write fails.
+    ensures usage { result ≡ Status.Usage → IsNone (command_of (texts_of words.now)) × Took (K.taken sink.old) (K.taken sink.new) usage_text }
+    ensures usage_only { IsNone (command_of (texts_of words.now)) →
+        (result ≡ Status.Usage) ⊎ (result ≡ Status.WriteFault) × TookPrefix (K.taken sink.old) (K.taken sink.new) usage_text }
+
+    // A fault of reading comes only where the shelf's faults rose, for a command, and nothing was written. Where the
+    // needed files are there, it comes only where the shelf's breaks rose too.
+    ensures read_fault { result ≡ Status.ReadFault → Rose (S.faults shelf.old) (S.faults shelf.new)
+        × IsSome (command_of (texts_of words.now)) × (K.taken sink.new ≡ K.taken sink.old) }
+    ensures read_break { result ≡ Status.ReadFault → (files : Files) → S.files shelf.old ≡ Some files →
+        IsDefined (texts_of words.now) files → Rose (S.breaks shelf.old) (S.breaks shelf.new) }
+
+    // A fault of writing comes only where the sink's faults rose, and a proper prefix of the outcome's text was written.
+    ensures write_fault { result ≡ Status.WriteFault → Rose (K.faults sink.old) (K.faults sink.new) }
+    ensures write_prefix { result ≡ Status.WriteFault → (files : Files) → S.files shelf.old ≡ Some files →
+        (text : List ℕ) × (status : Status) × IsOutcome (texts_of words.now) files text status × TookPrefix (K.taken sink.old) (K.taken sink.new) text }
+
+    // Want of memory comes only for a command, and nothing was written.
+    ensures memory { result ≡ Status.Memory → IsSome (command_of (texts_of words.now)) × (K.taken sink.new ≡ K.taken sink.old) }
+
+    // Without a fault of a device the status is 0 to 3, or memory failed.
+    ensures faultless { (Rose (S.faults shelf.old) (S.faults shelf.new) → ⊥) → (Rose (K.faults sink.old) (K.faults sink.new) → ⊥) →
+        IsSettled result ⊎ (result ≡ Status.Memory) }
+
+    // What the shelf and the sink tell stays, and their counts do not fall.
+    ensures files { S.files shelf.new ≡ S.files shelf.old }
+    ensures breaks_cap { S.cap shelf.new ≡ S.cap shelf.old }
+    ensures grows { S.faults shelf.old ≤ S.faults shelf.new }
+    ensures breaks_grow { S.breaks shelf.old ≤ S.breaks shelf.new }
+    ensures faults_cap { K.cap sink.new ≡ K.cap sink.old }
+    ensures room { K.room sink.new ≡ K.room sink.old }
+    ensures faults_grow { K.faults sink.old ≤ K.faults sink.new }
+{
+    let _ = rt;
+    let Some(file) = command(words) else {
+        return write(sink, b"usage\n", Status::Usage);
+    };
+    match check(alloc, shelf, file) {
+        Ok(answer) => write(sink, answer.text.as_slice(), answer.status),
+        Err(Fault::Read) => Status::ReadFault,
+        Err(Fault::Memory) => Status::Memory,
+    }
+}

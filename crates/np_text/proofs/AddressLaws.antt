@@ -1,7 +1,7 @@
 -- Laws of addresses and prefixes.
-use Rattle.std.proofs.Common.{◌≡◌, ◌≢◌, ℕ, ◌/◌, ◌%◌, ◌^◌, ◌<◌, ◌≤◌, Bool, false, List, [], ◌∷◌, ◌++◌, length, get_or, map, cond, true, suc, zero, Option, Some, None, All, sym, subst, refl, ap, ◌∙◌, arith, append_assoc, length-append}
+use Rattle.std.proofs.Common.{◌≡◌, ◌≢◌, ℕ, ◌/◌, ◌%◌, ◌^◌, ◌<◌, ◌≤◌, ◌==◌, Bool, false, List, [], ◌∷◌, ◌++◌, length, get_or, map, cond, true, suc, zero, Option, Some, None, All, sym, subst, refl, ap, ◌∙◌, arith, append_assoc, length-append}
 use Rattle.std.specs.Fmt.{decimal}
-use Rattle.std.specs.Int.{w32, from_be_bytes, to_be_bytes}
+use Rattle.std.specs.Int.{IsInRange, w32, from_be_bytes, to_be_bytes}
 use Rattle.std.specs.List.{slice_split, join_with_byte, position_or_len, before_first, after_first}
 use Rattle.std.specs.Option.{option_and_then, option_map}
 use Rattle.std.proofs.lemmas.Bool.{cond-false, eqb-true, ne_eqb, le-leb, lt-leb, le-ltb, lt-ltb}
@@ -52,11 +52,14 @@ pub dotted-bytes : (address : ℕ) (bytes : List ℕ) → bytes ≡ to_be_bytes 
 unfolding dotted
 dotted-bytes address bytes same = rw same (simp append_assoc)
 
--- decimal digits hold no dot
+-- decimal digits hold no other byte
+pub decimal_no_other : (c n : ℕ) → (IsInRange 48 57 c → ⊥) → n < 2 ^ 64 → All (λ b. (b == c) ≡ false) (decimal n)
+decimal_no_other c n out small k e m =
+    let other = not_in_digits digits_by_test (decimal n) c (digits_decimal digits_by_test n small) out k m in
+    rw (get_or_default (decimal n) k e 0 m) (ne_eqb _ c other)
+
 decimal_no_dot : (n : ℕ) → n < 2 ^ 64 → All (λ b. is_dot b ≡ false) (decimal n)
-decimal_no_dot n small k e m =
-    let other = not_in_digits digits_by_test (decimal n) 46 (digits_decimal digits_by_test n small) (λ h. omega (arith, h.0)) k m in
-    rw (get_or_default (decimal n) k e 0 m) (ne_eqb _ 46 other)
+decimal_no_dot n small = decimal_no_other 46 n (λ h. omega (arith, h.0)) small
 
 octet_of-decimal : (n : ℕ) → n < 256 → octet_of (decimal n) ≡ Some n
 octet_of-decimal n small =

@@ -5,3 +5,4 @@ pub mod LineLaws
 pub mod NumberLaws
 pub mod PlaceLaws
 pub mod WordLaws
+pub mod WrittenLaws

@@ -1,7 +1,7 @@
 -- Laws of the words of a line.
 use Rattle.std.proofs.Common.{◌≡◌, ℕ, ◌+◌, ◌<◌, ◌≤◌, false, true, not, List, [], ◌∷◌, ◌++◌, length, take, drop, get_or, map, All, inl, inr, sym, refl, ap, ◌∙◌, arith, take-append-drop}
 use Rattle.std.specs.List.{onto_first, prefix_len, position_or_len}
-use Rattle.std.proofs.lemmas.Bool.{cond-true, cond-false, cond_both, cases_Bool}
+use Rattle.std.proofs.lemmas.Bool.{cond-true, cond_both, cases_Bool}
 use Rattle.std.proofs.lemmas.Grind.{common_steps}
 use Rattle.std.proofs.lemmas.List.Elements.{All-head, All-tail}
 use Rattle.std.proofs.lemmas.List.Sums.{prefix_len_passes, prefix_len-le-length, fails_before_first, passes_at_first}
@@ -15,14 +15,19 @@ placed_words-append_blanks at (b ∷ blanks) rest h =
     ∙ placed_words-append_blanks (at + 1) blanks rest (All-tail (λ y. is_blank y ≡ true) b blanks h)
     ∙ ap (λ i. placed_words i rest) (omega arith)
 
+placed_words-last_byte : (at b : ℕ) (bs : List ℕ) → is_blank b ≡ false → ends_word bs ≡ true → placed_words at (b ∷ bs) ≡ (at, b ∷ []) ∷ placed_words (at + 1) bs
+placed_words-last_byte at b bs other ends = rw (other, ends) refl
+
+placed_words-more_bytes : (at b : ℕ) (bs : List ℕ) → is_blank b ≡ false → ends_word bs ≡ false → placed_words at (b ∷ bs) ≡ onto_first_word at b (placed_words (at + 1) bs)
+placed_words-more_bytes at b bs other goes_on = rw (other, goes_on) refl
+
 -- a word in front of a blank byte, or of nothing
 pub placed_words-append_word : (at b : ℕ) (word rest : List ℕ) → All (λ y. is_blank y ≡ false) (b ∷ word) → ends_word rest ≡ true → placed_words at ((b ∷ word) ++ rest) ≡ (at, b ∷ word) ∷ placed_words (at + length (b ∷ word)) rest
 placed_words-append_word at b [] rest h ends =
-    cond-false _ _ _ (All-head (λ y. is_blank y ≡ false) b [] h) ∙ cond-true _ _ _ ends
+    placed_words-last_byte at b rest (All-head (λ y. is_blank y ≡ false) b [] h) ends
 placed_words-append_word at b (c ∷ word) rest h ends =
     let others = All-tail (λ y. is_blank y ≡ false) b (c ∷ word) h in
-    cond-false _ _ _ (All-head (λ y. is_blank y ≡ false) b (c ∷ word) h)
-    ∙ cond-false _ _ _ (All-head (λ y. is_blank y ≡ false) c word others)
+    placed_words-more_bytes at b ((c ∷ word) ++ rest) (All-head (λ y. is_blank y ≡ false) b (c ∷ word) h) (All-head (λ y. is_blank y ≡ false) c word others)
     ∙ ap (onto_first_word at b) (placed_words-append_word (at + 1) c word rest others ends)
     ∙ ap (λ i. (at, b ∷ c ∷ word) ∷ placed_words i rest) (omega arith)
 

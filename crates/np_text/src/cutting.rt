@@ -46,7 +46,7 @@ pub fn lines(bytes: &[u8]) -> LineIter<'_>
     }
 }
 
-/// What stands before the first such byte, and what stands behind it. `None` where there is none.
+/// What stands before the first `byte`, and what stands behind it. `None` where there is none.
 pub(crate) fn split_once(bytes: &[u8], byte: u8) -> Option<(&[u8], &[u8])>
     ensures none { IfNone result (position_or_len (λ b. b == byte) bytes.now ≡ length bytes.now) }
     ensures found { OnSome result (position_or_len (λ b. b == byte) bytes.now < length bytes.now) }

@@ -3,7 +3,7 @@
 ghost use Rattle.std.specs.Prelude.{ℕ, ◌≡◌, ◌+◌, ◌^◌, ◌<◌, ◌≤◌, ◌==◌, Bool, true, not, List, [], ◌∷◌, ◌++◌, length, map, filter, Some, if◌then◌else◌};
 ghost use Rattle.std.specs.Fmt.{decimal};
 ghost use Rattle.std.specs.List.{AllByRecursion, concat, list_all, slice_range};
-ghost use Rattle.np_text.specs.Addresses.{address_of, dotted};
+ghost use Rattle.np_text.specs.Addresses.{address_of, dotted, front_bits, prefix_of};
 ghost use Rattle.np_text.specs.Joined.{is_word, joined_line, joined_text};
 ghost use Rattle.np_text.specs.Lines.{ended_lines, has_end, lines_of};
 ghost use Rattle.np_text.specs.Numbers.{number_of};
@@ -41,6 +41,20 @@ pub fn numbers_read_back()
 pub fn addresses_read_back()
     ensures back { (address : ℕ) → address < 2 ^ 32 → address_of (dotted address) ≡ Some address }
     ensures shortest { (word : List ℕ) (address : ℕ) → address_of word ≡ Some address → length (dotted address) ≤ length word }
+{}
+
+/// An address reads back as a prefix of length 32, and with a length behind it as the prefix of that
+/// length.
+pub fn prefixes_read_back()
+    ensures whole { (address : ℕ) → address < 2 ^ 32 → prefix_of (dotted address) ≡ Some (address, 32) }
+    ensures front { (address bits : ℕ) → address < 2 ^ 32 → bits ≤ 32 → prefix_of (dotted address ++ 47 ∷ decimal bits) ≡ Some (front_bits address bits, bits) }
+{}
+
+/// Numbers, addresses and prefixes, as they are written, are words.
+pub fn written_forms_are_words()
+    ensures numbers { (value : ℕ) → value < 2 ^ 64 → is_word (decimal value) ≡ true }
+    ensures addresses { (address : ℕ) → is_word (dotted address) ≡ true }
+    ensures prefixes { (address bits : ℕ) → bits ≤ 32 → is_word (dotted address ++ 47 ∷ decimal bits) ≡ true }
 {}
 
 /// Lines of words, the words of each joined by one space, with or without a space in front of

@@ -66,6 +66,9 @@ fn lines_come_with_their_numbers(rt: HostRuntime) {
 
 #[test]
 fn words_come_with_their_places(rt: HostRuntime) -> Result<(), Fail> {
+    for blank in ["", " ", "\t \r"] {
+        assert_eq!(rt; words(blank.as_bytes()).next(), None, "in {blank:?}");
+    }
     let mut left = words(b" \tpermit  ip\r");
     assert_eq!(rt;
         left.next(),

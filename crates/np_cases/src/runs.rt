@@ -52,7 +52,11 @@ pub fn expect<R: Threads + Sync + Abort>(
 ) -> Result<(), Fail> {
     let mut shelf = shelf(alloc, files)?;
     let mut sink = MemSink::new(alloc, ROOM)?;
-    assert_eq!(rt; status(rt, alloc, line, &mut shelf, &mut sink)?, number, "the status of {case}");
+    assert_eq!(rt;
+        status(rt, alloc, line, &mut shelf, &mut sink)?,
+        number,
+        "the status of {case}"
+    );
     assert_eq!(rt; sink.bytes(), text.as_bytes(), "the text of {case}");
     Ok(())
 }

@@ -46,9 +46,9 @@ pub judged-more : (net : Network) (configs : List Config) (lets : ℕ → Bool) 
     IsJudged net configs p goal holds → IsJudged net configs (p + 1) goal still
 judged-more net configs lets p goal true true within agree kept lost judged = λ q below broken.
     elim (cases_lt q p) [
-      inl less ↦ judged q less broken
-    | inr more ↦ let same : q ≡ p = omega arith in
-        (kept refl).1 (broken-agree net _ lets goal p (agree-back _ lets _ agree) (subst (λ r. IsBrokenBy net (slot_lets net configs r) goal r) same broken))
+      | inl less ↦ judged q less broken
+      | inr more ↦ let same : q ≡ p = omega arith in
+          (kept refl).1 (broken-agree net _ lets goal p (agree-back _ lets _ agree) (subst (λ r. IsBrokenBy net (slot_lets net configs r) goal r) same broken))
     ]
 judged-more net configs lets p goal false true within agree kept lost judged = let h : false ≡ true = (kept refl).0 in absurd (cc)
 judged-more net configs lets p goal true false within agree kept lost judged =

@@ -25,8 +25,8 @@ one_verdict net configs goal false false a b = refl
 one_verdicts : (net : Network) (configs : List Config) (vs ws : List Bool) → AreVerdicts net configs vs → AreVerdicts net configs ws → vs ≡ ws
 one_verdicts net configs vs ws a b =
     ext_get_or false vs ws (a.len ∙ sym b.len) (λ n within.
-      let here : n < length net.goals = omega arith in
-      one_verdict net configs (goal_at net.goals n) _ _ (a.each n here) (b.each n here))
+    let here : n < length net.goals = omega arith in
+    one_verdict net configs (goal_at net.goals n) _ _ (a.each n here) (b.each n here))
 
 -- the same text and the same status
 abbrev pub Same : List ℕ → Status → List ℕ → Status → Type 0

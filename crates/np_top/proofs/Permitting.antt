@@ -16,9 +16,9 @@ first_match : (entries : List Entry) (protocol : ℕ) →
 first_match [] protocol = refl
 first_match (entry ∷ entries) protocol =
     elim (protocols_have entry.protocols protocol) as (λ b. cond b entry.permit (decided true entries protocol)
-      ≡ option_map_or (λ (e : Entry). e.permit) (cond b (Some entry) (find (λ e. protocols_have e.protocols protocol) entries)) false) [
-      true ↦ refl
-    | false ↦ first_match entries protocol
+    ≡ option_map_or (λ (e : Entry). e.permit) (cond b (Some entry) (find (λ e. protocols_have e.protocols protocol) entries)) false) [
+      | true ↦ refl
+      | false ↦ first_match entries protocol
     ]
 
 pub decided_is : (entries : List Entry) (protocol : ℕ) → decided false entries protocol ≡ filters.permits entries protocol

@@ -25,14 +25,3 @@ three_texts (x ∷ []) a b c three = absurd (omega arith)
 three_texts (x ∷ y ∷ []) a b c three = absurd (omega arith)
 three_texts (x ∷ y ∷ z ∷ []) a b c three = refl
 three_texts (x ∷ y ∷ z ∷ w ∷ words) a b c three = absurd (omega arith)
-
--- the words of a list of five
-pub five_texts : (words : List (Bor (List ℕ))) (a b c d e : Bor (List ℕ)) → length words ≡ 5 →
-    texts words ≡ (get_or words 0 a).now ∷ (get_or words 1 b).now ∷ (get_or words 2 c).now ∷ (get_or words 3 d).now ∷ (get_or words 4 e).now ∷ []
-five_texts [] a b c d e five = absurd (omega arith)
-five_texts (v ∷ []) a b c d e five = absurd (omega arith)
-five_texts (v ∷ w ∷ []) a b c d e five = absurd (omega arith)
-five_texts (v ∷ w ∷ x ∷ []) a b c d e five = absurd (omega arith)
-five_texts (v ∷ w ∷ x ∷ y ∷ []) a b c d e five = absurd (omega arith)
-five_texts (v ∷ w ∷ x ∷ y ∷ z ∷ []) a b c d e five = refl
-five_texts (v ∷ w ∷ x ∷ y ∷ z ∷ more ∷ words) a b c d e five = absurd (omega arith)

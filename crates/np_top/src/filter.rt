@@ -33,12 +33,8 @@ fn permits(entries: &[Entry], list: &[u8], protocol: u8) -> bool
 fn group_of<'a>(config: &'a Config, interface: &[u8], inward: bool) -> Option<&'a Group>
     ensures { option_copied result ≡ filters.group_of config.now interface.now inward }
 {
-    config
-        .groups
-        .as_slice()
-        .iter()
-        .rev()
-        .find(|group| group.interface.as_slice() == interface && group.inward == inward)
+    config.groups.as_slice().iter().rev().find(|group| group.interface.as_slice() == interface
+        && group.inward == inward)
 }
 
 /// What a configuration lets cross at an interface.

@@ -32,7 +32,14 @@ fn is_broken(
         return Ok(false);
     }
     let interfaces = net.interfaces.as_slice();
-    let areas = reached(alloc, interfaces, lets, goal.from, net.areas.len(), net.devices.len())?;
+    let areas = reached(
+        alloc,
+        interfaces,
+        lets,
+        goal.from,
+        net.areas.len(),
+        net.devices.len(),
+    )?;
     Ok(areas[goal.to as usize])
 }
 

@@ -7,5 +7,4 @@ ghost use Rattle.np_top.specs.Outcome.{IsOneOutcome};
 #[tactic(auto, using(crate::proofs::Outcomes::is_one_outcome))]
 pub fn one_outcome()
     ensures { IsOneOutcome }
-{
-}
+{}

@@ -82,9 +82,15 @@ pub fn report(alloc: Global, verdicts: &[bool]) -> Result<Answer, AllocError>
     if all_hold(verdicts) {
         text.extend_from_slice(b"holds\n")?;
         let text = Items::from_vec(text);
-        return Ok(Answer { text, status: Status::Holds });
+        return Ok(Answer {
+            text,
+            status: Status::Holds,
+        });
     }
     text.extend_from_slice(b"fails\n")?;
     let text = Items::from_vec(text);
-    Ok(Answer { text, status: Status::Fails })
+    Ok(Answer {
+        text,
+        status: Status::Fails,
+    })
 }

@@ -14,7 +14,7 @@ use np_text::{number, prefix};
 /// The bytes of a name, at most.
 const NAME_LIMIT: usize = 64;
 
-pub fn is_text_byte(byte: u8) -> bool
+fn is_text_byte(byte: u8) -> bool
     ensures { result ≡ tokens.is_text_byte byte }
 {
     (32 <= byte && byte <= 126) || byte == b'\t' || byte == b'\r'
@@ -121,7 +121,7 @@ fn numbered_protocol(word: &[u8]) -> Option<Protocols>
     Some(Protocols::One(number as u8))
 }
 
-/// The protocol of a keyword.
+/// The protocol of a keyword, as protocols.
 fn named_protocol(word: &[u8]) -> Option<Protocols>
     ensures { result ≡ option_map One (tokens.keyword_protocol word.now) }
 {

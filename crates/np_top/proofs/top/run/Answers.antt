@@ -16,11 +16,11 @@ returns-in_default-clause-write_prefix g c = λ is files told.
 pub returns-in-Ok-clause-only : goal.returns-in-Ok-clause-only
 returns-in-Ok-clause-only g c = λ files text status told outcome.
     written_only (texts_of c.args.words.now) files c.in-Ok.answer.text c.in-Ok.answer.status c.write-in-Ok.result _ _ _
-      (check_outcome (texts_of c.args.words.now) files c.in-Some.file.now c.in-Ok.answer.text c.in-Ok.answer.status c.in-Some.ensures (c.in-Ok.ensures.ok files told))
-      (rw c.as_slice.ensures at c.write-in-Ok.ensures.written) text status outcome
+    (check_outcome (texts_of c.args.words.now) files c.in-Some.file.now c.in-Ok.answer.text c.in-Ok.answer.status c.in-Some.ensures (c.in-Ok.ensures.ok files told))
+    (rw c.as_slice.ensures at c.write-in-Ok.ensures.written) text status outcome
 
 pub returns-in-Ok-clause-write_prefix : goal.returns-in-Ok-clause-write_prefix
 returns-in-Ok-clause-write_prefix g c = λ is files told.
     written_part (texts_of c.args.words.now) files c.in-Ok.answer.text c.in-Ok.answer.status c.write-in-Ok.result _ _ _
-      (check_outcome (texts_of c.args.words.now) files c.in-Some.file.now c.in-Ok.answer.text c.in-Ok.answer.status c.in-Some.ensures (c.in-Ok.ensures.ok files told))
-      c.in-Ok.ensures.settled.0 (rw c.as_slice.ensures at c.write-in-Ok.ensures.written) is
+    (check_outcome (texts_of c.args.words.now) files c.in-Some.file.now c.in-Ok.answer.text c.in-Ok.answer.status c.in-Some.ensures (c.in-Ok.ensures.ok files told))
+    c.in-Ok.ensures.settled.0 (rw c.as_slice.ensures at c.write-in-Ok.ensures.written) is

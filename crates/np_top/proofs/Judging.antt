@@ -1,18 +1,16 @@
 -- The judging, one protocol more.
-use Rattle.std.proofs.Common.{◌≡◌, ℕ, ◌+◌, ◌*◌, ◌<◌, ◌≤◌, ◌⊎◌, inl, inr, Bool, true, false, List, [], ◌∷◌, length, arith, sym, ◌∙◌, refl, ap, subst, ◌≢◌, get_or, set, get_or-set_same, get_or-set_other}
+use Rattle.std.proofs.Common.{◌≡◌, ℕ, ◌+◌, ◌*◌, ◌<◌, ◌⊎◌, inl, inr, Bool, true, false, List, [], ◌∷◌, length, arith, sym, ◌∙◌, refl, subst, ◌≢◌, get_or, set, get_or-set_same, get_or-set_other}
 use Rattle.std.proofs.lemmas.Bool.{cases_lt}
 use Rattle.np_space.proofs.HeaderLemmas.{valid_bare, valid_widths}
 use Rattle.np_space.specs.declared.headers.Header.{Header}
-use Rattle.np_space.specs.Header.{IsValid, is_valid_header}
 use Rattle.np_top.specs.declared.network.Interface.{Interface}
 use Rattle.np_top.specs.declared.network.Goal.{Goal}
 use Rattle.np_top.specs.declared.network.Network.{Network}
 use Rattle.np_top.specs.declared.config.Config.{Config}
 use Rattle.np_top.specs.Filter.{slot_lets}
-use Rattle.np_top.specs.Goals.{goal_at, IsForbidden, GoalHolds, IsViolated, IsVerdict}
+use Rattle.np_top.specs.Goals.{goal_at, IsVerdict}
 use Rattle.np_top.specs.Judged.{IsBrokenBy, IsJudged}
-use Rattle.np_top.specs.Path.{AllCross, Leads, IsPath, Reaches}
-use Rattle.np_top.specs.Tokens.{protocols_have}
+use Rattle.np_top.specs.Path.{AllCross, Leads}
 
 -- two tests agree on the slots of so many interfaces
 abbrev pub AgreeOnSlots : ℕ → (ℕ → Bool) → (ℕ → Bool) → Type 0

@@ -1,7 +1,7 @@
 -- What loading gives at the exit of a failed call.
-use Rattle.std.proofs.Common.{◌≡◌, ℕ, ◌<◌, Bool, List, [], ◌∷◌, ◌++◌, append_assoc, length, ltb, Option, Some, None, Result, Ok, Err, refl, arith, sym, ◌∙◌, ap, cond}
+use Rattle.std.proofs.Common.{◌≡◌, ℕ, ◌<◌, List, ◌++◌, length, ltb, Option, Some, None, Result, Ok, Err, refl, sym, ◌∙◌, ap, cond}
 use Rattle.std.proofs.lemmas.Bool.{lt-ltb}
-use Rattle.std.specs.Prelude.{IsErrOf, IsSomeAnd, IsSome}
+use Rattle.std.specs.Prelude.{IsErrOf, IsSomeAnd}
 use Rattle.std.specs.Option.{option_map}
 use Rattle.std.specs.FinMap.{get}
 use Rattle.np_outside.specs.Files.{Files}
@@ -30,28 +30,3 @@ bytes_halt reading files file halts.Memory refused = tt
 -- what is said with these items in front
 abbrev pub behind : {X : Type 0} → List X → Option (Result (List X) (List ℕ)) → Option (Result (List X) (List ℕ))
 behind front says = and_then says (λ xs. Some (Ok (front ++ xs)))
-
-pub behind-none : {X : Type 0} (says : Option (Result (List X) (List ℕ))) → behind [] says ≡ says
-behind-none None = refl
-behind-none (Some (Err text)) = refl
-behind-none (Some (Ok xs)) = refl
-
--- one more item in front
-pub behind-more : {X : Type 0} (front : List X) (x : X) (rest : Option (Result (List X) (List ℕ))) →
-    behind front (and_then rest (λ xs. Some (Ok (x ∷ xs)))) ≡ behind (front ++ x ∷ []) rest
-behind-more front x None = refl
-behind-more front x (Some (Err text)) = refl
-behind-more front x (Some (Ok xs)) = ap (λ zs. Some (Ok zs)) (sym (append_assoc front (x ∷ []) xs))
-
--- a halt at a device is what all devices say
-pub device_halt : {X : Type 0} (front : List X) (one : Option (Result X (List ℕ))) (rest : Option (Result (List X) (List ℕ))) (halt : Halt) →
-    Loads {X = X} (Err halt) one → Loads {X = List X} (Err halt) (behind front (and_then one (λ x. and_then rest (λ xs. Some (Ok (x ∷ xs))))))
-device_halt front one rest (halts.Refused text) is = rw is refl
-device_halt front one rest halts.ReadFault is = tt
-device_halt front one rest halts.Memory is = tt
-
--- all devices say something only where each does
-pub device_said : {X : Type 0} (front : List X) (one : Option (Result X (List ℕ))) (rest : X → Option (Result (List X) (List ℕ))) →
-    IsSome (behind front (and_then one rest)) → IsSome one
-device_said front None rest said = said
-device_said front (Some r) rest said = refl

@@ -1,9 +1,9 @@
-use Rattle.std.proofs.Common.{◌≡◌, ℕ, zero, suc, ◌+◌, ◌*◌, ◌<◌, ◌≤◌, ◌⊎◌, inl, inr, Bool, true, false, cond, List, [], ◌∷◌, ◌++◌, length, get_or, set, length-append, arith, sym, ◌∙◌, refl, ap, subst, below_more}
+use Rattle.std.proofs.Common.{◌≡◌, ℕ, zero, suc, ◌+◌, ◌*◌, ◌<◌, ◌≤◌, inl, inr, Bool, true, false, cond, List, [], ◌∷◌, ◌++◌, length, length-append, arith, sym, ◌∙◌, refl, subst}
 use Rattle.std.specs.Prelude.{count_by}
 use Rattle.std.proofs.lemmas.List.Recursion.{is_count_by}
 use Rattle.np_top.specs.declared.network.Interface.{Interface}
-use Rattle.np_top.specs.Path.{device_of, area_of, IsHop, Leads, AllCross, IsPath, Reaches}
-use Rattle.np_top.specs.Spread.{is_marked, StandOn, Enter, Leave, AreEntered, AreLeftTo, AreReached, HoldReached}
+use Rattle.np_top.specs.Path.{device_of, area_of, IsHop, Leads, AllCross, Reaches}
+use Rattle.np_top.specs.Spread.{is_marked, StandOn, Enter, AreEntered, AreLeftTo, AreReached, HoldReached}
 
 -- how many are marked, by cases on the list
 abbrev marks_in : List Bool → ℕ

@@ -1,9 +1,8 @@
 -- Which packets the access lists let cross.
-use Rattle.std.specs.Prelude.{ℕ, ◌/◌, ◌%◌, Bool, true, false, ◌&&◌, not, ◌==◌, if◌then◌else◌, List, [], ◌∷◌, reverse, Option, Some, None, slice_index_or}
+use Rattle.std.specs.Prelude.{ℕ, ◌/◌, ◌%◌, Bool, true, false, ◌&&◌, not, ◌==◌, if◌then◌else◌, List, [], ◌∷◌, reverse, Option, slice_index_or}
 use Rattle.std.specs.List.{find, filter}
 use Rattle.std.specs.Str.{bytes_eq}
 use Rattle.std.specs.Option.{option_map_or}
-use Rattle.np_space.specs.declared.headers.Header.{Header}
 use Rattle.np_top.specs.declared.network.Network.{Network}
 use Rattle.np_top.specs.declared.config.Entry.{Entry}
 use Rattle.np_top.specs.declared.config.Group.{Group}

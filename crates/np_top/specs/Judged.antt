@@ -1,5 +1,5 @@
 -- The judging by protocols: what is known of the goals once some protocols have been tried.
-use Rattle.std.specs.Prelude.{◌≡◌, ℕ, ◌<◌, ◌≤◌, Bool, true, false, List, slice_index_or, IsTrue}
+use Rattle.std.specs.Prelude.{ℕ, ◌<◌, ◌≤◌, Bool, true, false, List, slice_index_or, IsTrue}
 use Rattle.np_top.specs.declared.network.Goal.{Goal}
 use Rattle.np_top.specs.declared.network.Network.{Network}
 use Rattle.np_top.specs.declared.config.Config.{Config}

@@ -1,5 +1,5 @@
 -- What loading a file gives, beside what the file says.
-use Rattle.std.specs.Prelude.{◌≡◌, ℕ, List, Option, Some, None, Result, Ok, Err}
+use Rattle.std.specs.Prelude.{◌≡◌, ℕ, List, Option, Some, Result, Ok, Err}
 use Rattle.np_top.specs.declared.load.Halt.{Halt}
 use Rattle.np_top.specs.declared.load.Halt.TheVariants as halts
 use Rattle.np_top.specs.declared.reader_error.ReaderError.{ReaderError}

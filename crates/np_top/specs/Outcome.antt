@@ -1,5 +1,5 @@
 -- The outcome of a run, by its words and files.
-use Rattle.std.specs.Prelude.{◌≡◌, ℕ, Bool, List, [], ◌∷◌, length, nat_lt, Option, Some, None, Result, Ok, Err, MatchOption, IsSome, codes, if◌then◌else◌, map, String}
+use Rattle.std.specs.Prelude.{◌≡◌, ℕ, List, [], ◌∷◌, length, nat_lt, Option, Some, None, Result, Ok, Err, MatchOption, IsSome, codes, if◌then◌else◌, map, String}
 use Rattle.std.specs.Str.{bytes_eq}
 use Rattle.std.specs.String.{string_bytes}
 use Rattle.std.specs.Option.{option_map, option_map_or}

@@ -1,5 +1,5 @@
 -- How packets spread from area to area, a device at a time.
-use Rattle.std.specs.Prelude.{◌≡◌, ℕ, ◌+◌, ◌*◌, ◌<◌, ◌⊎◌, Bool, true, false, List, [], ◌∷◌, length, slice_index_or}
+use Rattle.std.specs.Prelude.{◌≡◌, ℕ, ◌+◌, ◌*◌, ◌<◌, ◌⊎◌, Bool, true, false, List, length, slice_index_or}
 use Rattle.np_top.specs.declared.network.Interface.{Interface}
 use Rattle.np_top.specs.Path.{device_of, area_of, Reaches}
 

@@ -1,4 +1,4 @@
-use Rattle.std.proofs.Common.{ℕ, ◌<◌, length, arith, rules, subst, ◌≤◌, ◌≡◌}
+use Rattle.std.proofs.Common.{length, arith, rules, subst, ◌≡◌}
 use Rattle.np_top.specs.Judged.{AreJudged}
 use Rattle.np_top.proofs.Judging.{verdict-judged}
 use Rattle.np_top.proofs.judge.judge.Goals as goal

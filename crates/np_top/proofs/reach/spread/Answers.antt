@@ -1,4 +1,4 @@
-use Rattle.std.proofs.Common.{rules, arith, ◌≡◌, ℕ, length, subst, sym, ◌∙◌, ◌≤◌}
+use Rattle.std.proofs.Common.{rules, arith, ◌≡◌, length, subst, ◌≤◌}
 use Rattle.std.proofs.lemmas.List.Sums.{count_by-le-length}
 use Rattle.std.specs.Prelude.{count_by}
 use Rattle.np_top.specs.Spread.{AreLeftTo}

@@ -1,8 +1,7 @@
-use Rattle.std.proofs.Common.{◌≡◌, ℕ, List, subst}
 use Rattle.np_top.specs.declared.status.Status.TheVariants.{Usage}
 use Rattle.np_top.specs.Outcome.{texts_of}
 use Rattle.np_top.specs.Report.{usage_text}
-use Rattle.np_top.proofs.Outcomes.{IsWritten, usage_outcome, check_outcome, written_whole, written_part, written_only}
+use Rattle.np_top.proofs.Outcomes.{usage_outcome, check_outcome, written_whole, written_part, written_only}
 use Rattle.np_top.proofs.top.run.Goals as goal
 
 pub returns-in_default-clause-outcome : goal.returns-in_default-clause-outcome

@@ -1,0 +1,147 @@
+//! The region of a predicate.
+
+ghost use Rattle.std.specs.Prelude.{◌≡◌, ◌==◌, ◌&&◌, ◌||◌, not, false, IfOk};
+ghost use Rattle.std.specs.List.{list_any};
+ghost use Rattle.np_space.specs.Header.{is_valid_header};
+ghost use Rattle.np_space.specs.Block.{block_has};
+ghost use Rattle.np_space.specs.Span.{span_has};
+ghost use Rattle.np_space.specs.Ternary.{ternary_has};
+ghost use Rattle.np_space.specs.declared.headers.Header.{Header};
+ghost use Rattle.np_pred.specs.Meaning.{has_ports, pred_holds};
+ghost use Rattle.np_region.specs.Keeping.{KeepsRegions};
+
+use crate::field_blocks::{
+    of_destination, of_established, of_first_number, of_protocol, of_second_number, of_source, only,
+};
+use np_pred::Pred;
+use np_region::Regions;
+use np_space::{Block, Span, Ternary};
+use std::alloc::{AllocError, Global};
+
+// The valid headers that one of two blocks has.
+fn of_two<S: Regions>(store: &mut S, first: &Block, second: &Block) -> Result<S::R, AllocError>
+    ensures kept { KeepsRegions S.fits S.has_header store.old store.new }
+    ensures fits { IfOk result (λ x. S.fits store.new x) }
+    ensures exact { IfOk result (λ x. (h : Header) → S.has_header store.new x h ≡ ((is_valid_header h && block_has first.now h) || (is_valid_header h && block_has second.now h))) }
+{
+    let x = store.of_block(first)?;
+    let y = store.of_block(second)?;
+    store.join(&x, &y)
+}
+
+// The valid headers whose source is in one of the patterns.
+fn sources<S: Regions>(store: &mut S, patterns: &[Ternary]) -> Result<S::R, AllocError>
+    ensures kept { KeepsRegions S.fits S.has_header store.old store.new }
+    ensures fits { IfOk result (λ x. S.fits store.new x) }
+    ensures exact { IfOk result (λ x. (h : Header) → S.has_header store.new x h ≡ (is_valid_header h && list_any (λ p. ternary_has p h.src) patterns.now)) }
+{
+    let mut all = store.none();
+    for pattern in patterns {
+        let one = store.of_block(&of_source(*pattern))?;
+        all = store.join(&all, &one)?;
+    }
+    Ok(all)
+}
+
+// The valid headers whose destination is in one of the patterns.
+fn destinations<S: Regions>(store: &mut S, patterns: &[Ternary]) -> Result<S::R, AllocError>
+    ensures kept { KeepsRegions S.fits S.has_header store.old store.new }
+    ensures fits { IfOk result (λ x. S.fits store.new x) }
+    ensures exact { IfOk result (λ x. (h : Header) → S.has_header store.new x h ≡ (is_valid_header h && list_any (λ p. ternary_has p h.dst) patterns.now)) }
+{
+    let mut all = store.none();
+    for pattern in patterns {
+        let one = store.of_block(&of_destination(*pattern))?;
+        all = store.join(&all, &one)?;
+    }
+    Ok(all)
+}
+
+// The valid headers of TCP and UDP with a source port in the span.
+fn source_ports<S: Regions>(store: &mut S, ports: Span) -> Result<S::R, AllocError>
+    ensures kept { KeepsRegions S.fits S.has_header store.old store.new }
+    ensures fits { IfOk result (λ x. S.fits store.new x) }
+    ensures exact { IfOk result (λ x. (h : Header) → S.has_header store.new x h ≡ (is_valid_header h && (has_ports h && span_has ports h.a))) }
+{
+    of_two(
+        store,
+        &of_first_number(6, ports),
+        &of_first_number(17, ports),
+    )
+}
+
+// The valid headers of TCP and UDP with a destination port in the span.
+fn destination_ports<S: Regions>(store: &mut S, ports: Span) -> Result<S::R, AllocError>
+    ensures kept { KeepsRegions S.fits S.has_header store.old store.new }
+    ensures fits { IfOk result (λ x. S.fits store.new x) }
+    ensures exact { IfOk result (λ x. (h : Header) → S.has_header store.new x h ≡ (is_valid_header h && (has_ports h && span_has ports h.b))) }
+{
+    of_two(
+        store,
+        &of_second_number(6, ports),
+        &of_second_number(17, ports),
+    )
+}
+
+// The valid headers of ICMP of this type.
+fn icmp_type<S: Regions>(store: &mut S, number: u8) -> Result<S::R, AllocError>
+    ensures kept { KeepsRegions S.fits S.has_header store.old store.new }
+    ensures fits { IfOk result (λ x. S.fits store.new x) }
+    ensures exact { IfOk result (λ x. (h : Header) → S.has_header store.new x h ≡ (is_valid_header h && (h.proto == 1 && h.a == number))) }
+{
+    store.of_block(&of_first_number(1, only(u16::from(number))))
+}
+
+// The valid headers of ICMP with this code.
+fn icmp_code<S: Regions>(store: &mut S, number: u8) -> Result<S::R, AllocError>
+    ensures kept { KeepsRegions S.fits S.has_header store.old store.new }
+    ensures fits { IfOk result (λ x. S.fits store.new x) }
+    ensures exact { IfOk result (λ x. (h : Header) → S.has_header store.new x h ≡ (is_valid_header h && (h.proto == 1 && h.b == number))) }
+{
+    store.of_block(&of_second_number(1, only(u16::from(number))))
+}
+
+// The valid headers for which an operand doesn't hold, by its region.
+fn without<S: Regions>(store: &mut S, operand: S::R) -> Result<S::R, AllocError>
+    requires { S.fits store.old operand }
+    ensures kept { KeepsRegions S.fits S.has_header store.old store.new }
+    ensures fits { IfOk result (λ x. S.fits store.new x) }
+    ensures exact { IfOk result (λ x. (h : Header) → S.has_header store.new x h ≡ (is_valid_header h && not (S.has_header store.old operand h))) }
+{
+    let whole = store.whole()?;
+    store.minus(&whole, &operand)
+}
+
+/// Exactly the valid headers for which the predicate holds. Fails only for want of memory.
+pub fn pred_region<S: Regions>(alloc: Global, store: &mut S, p: &Pred) -> Result<S::R, AllocError>
+    ensures kept { KeepsRegions S.fits S.has_header store.old store.new }
+    ensures fits { IfOk result (λ x. S.fits store.new x) }
+    ensures exact { IfOk result (λ x. (h : Header) → S.has_header store.new x h ≡ (is_valid_header h && pred_holds p.now h)) }
+{
+    match p {
+        Pred::Any => store.whole(),
+        Pred::Nothing => Ok(store.none()),
+        Pred::Proto(number) => store.of_block(&of_protocol(*number)),
+        Pred::Src(patterns) => sources(store, patterns.as_slice()),
+        Pred::Dst(patterns) => destinations(store, patterns.as_slice()),
+        Pred::SrcPort(ports) => source_ports(store, *ports),
+        Pred::DstPort(ports) => destination_ports(store, *ports),
+        Pred::IcmpType(number) => icmp_type(store, *number),
+        Pred::IcmpCode(number) => icmp_code(store, *number),
+        Pred::Established => store.of_block(&of_established()),
+        Pred::Not(operand) => {
+            let region = pred_region(alloc, store, operand.get())?;
+            without(store, region)
+        }
+        Pred::And(first, second) => {
+            let x = pred_region(alloc, store, first.get())?;
+            let y = pred_region(alloc, store, second.get())?;
+            store.meet(&x, &y)
+        }
+        Pred::Or(first, second) => {
+            let x = pred_region(alloc, store, first.get())?;
+            let y = pred_region(alloc, store, second.get())?;
+            store.join(&x, &y)
+        }
+    }
+}

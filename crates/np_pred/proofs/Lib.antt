@@ -1,0 +1,10 @@
+pub mod AreaLaws
+pub mod MadeLaws
+pub mod PatternLaws
+pub mod PortLaws
+pub mod ReadLaws
+pub mod Induction
+pub mod CanonicalLaws
+pub mod TextBackLaws
+pub mod ReadBackLaws
+pub mod WordForms

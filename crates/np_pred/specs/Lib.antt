@@ -1,0 +1,9 @@
+pub mod Made
+pub mod Ports
+pub mod Patterns
+pub mod Areas
+pub mod Keywords
+pub mod Forms
+pub mod Meaning
+pub mod Reading
+pub mod Canonical

@@ -1,0 +1,24 @@
+//! Predicates on packet headers: their words, their meaning and their canonical text.
+#![tactic(auto)]
+
+mod address_lists;
+mod area_names;
+mod canonical;
+mod keywords;
+mod laws;
+mod ports;
+mod pred_error;
+mod predicate;
+mod reading;
+mod words_left;
+
+pub use address_lists::{addresses, put_addresses};
+pub use area_names::Areas;
+pub use canonical::put_pred;
+pub use laws::{canonical_text_is_words, canonical_words_read_back, prefixes_are_by_bits};
+pub use pred_error::PredError;
+pub use predicate::Pred;
+pub use reading::parse;
+
+#[cfg(test)]
+mod tests;

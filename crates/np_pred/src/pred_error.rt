@@ -1,0 +1,32 @@
+//! Why words are no predicate.
+
+ghost use Rattle.std.specs.Prelude.{◌≡◌};
+ghost use Rattle.np_pred.specs.declared.pred_error.PredError.TheVariants.{Memory};
+
+use std::alloc::AllocError;
+
+/// Why words are no predicate: what is wrong with the first word at which none can go on. Words
+/// count from 0.
+#[derive(Clone, Copy, Debug, PartialEq, Eq)]
+pub enum PredError {
+    /// This word begins no predicate, or isn't the argument that its place needs.
+    BadWord(usize),
+    /// A word is missing behind the last one.
+    Unfinished,
+    /// This word stands behind the whole predicate.
+    Extra(usize),
+    /// This word should begin a predicate at nesting 65.
+    TooDeep(usize),
+    /// No area has this name.
+    UnknownArea(usize),
+    /// Memory ran out.
+    Memory(AllocError),
+}
+
+impl From<AllocError> for PredError {
+    ghost from_gives = { λ error e. e ≡ Memory error };
+
+    fn from(error: AllocError) -> PredError {
+        PredError::Memory(error)
+    }
+}

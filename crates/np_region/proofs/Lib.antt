@@ -1,0 +1,2 @@
+pub mod BlockListLemmas
+pub mod KeepingLemmas

@@ -2,15 +2,15 @@
 use Rattle.std.proofs.Common.{◌≡◌, ℕ, ◌+◌, ◌*◌, ◌<◌, ◌⊎◌, inl, inr, Bool, true, false, List, [], ◌∷◌, length, arith, sym, ◌∙◌, refl, subst, ◌≢◌, get_or, set, get_or-set_same, get_or-set_other}
 use Rattle.std.proofs.lemmas.Bool.{cases_lt}
 use Rattle.np_space.proofs.HeaderLemmas.{valid_bare, valid_widths}
-use Rattle.np_space.specs.declared.headers.Header.{Header}
 use Rattle.np_top.specs.declared.network.Interface.{Interface}
 use Rattle.np_top.specs.declared.network.Goal.{Goal}
 use Rattle.np_top.specs.declared.network.Network.{Network}
 use Rattle.np_top.specs.declared.config.Config.{Config}
-use Rattle.np_top.specs.Filter.{slot_lets}
+use Rattle.np_top.specs.Filter.{slot_lets, ConfigsTestProtocols}
 use Rattle.np_top.specs.Goals.{goal_at, IsVerdict}
-use Rattle.np_top.specs.Judged.{IsBrokenBy, IsJudged}
+use Rattle.np_top.specs.Judged.{IsBrokenBy, IsJudged, plain_packet}
 use Rattle.np_top.specs.Path.{AllCross, Leads}
+use Rattle.np_top.proofs.ProtocolLaws.{same_slot}
 
 -- two tests agree on the slots of so many interfaces
 abbrev pub AgreeOnSlots : ℕ → (ℕ → Bool) → (ℕ → Bool) → Type 0
@@ -39,32 +39,36 @@ agree-back n f g agree s h = sym (agree s h)
 
 -- One more protocol is tried, with slots that let its packets cross as the lists say.
 pub judged-more : (net : Network) (configs : List Config) (lets : ℕ → Bool) (p : ℕ) (goal : Goal) (holds still : Bool) → p < 256 →
-    AgreeOnSlots (length net.interfaces) lets (slot_lets net configs p) →
+    AgreeOnSlots (length net.interfaces) lets (slot_lets net configs (plain_packet p)) →
     (still ≡ true → (holds ≡ true) × (IsBrokenBy net lets goal p → ⊥)) → (still ≡ false → (holds ≡ false) ⊎ IsBrokenBy net lets goal p) →
     IsJudged net configs p goal holds → IsJudged net configs (p + 1) goal still
 judged-more net configs lets p goal true true within agree kept lost judged = λ q below broken.
     elim (cases_lt q p) [
       | inl less ↦ judged q less broken
       | inr more ↦ let same : q ≡ p = omega arith in
-          (kept refl).1 (broken-agree net _ lets goal p (agree-back _ lets _ agree) (subst (λ r. IsBrokenBy net (slot_lets net configs r) goal r) same broken))
+          (kept refl).1 (broken-agree net _ lets goal p (agree-back _ lets _ agree) (subst (λ r. IsBrokenBy net (slot_lets net configs (plain_packet r)) goal r) same broken))
     ]
 judged-more net configs lets p goal false true within agree kept lost judged = let h : false ≡ true = (kept refl).0 in absurd (cc)
 judged-more net configs lets p goal true false within agree kept lost judged =
     elim (lost refl) [ inl lost_before ↦ absurd (cc) | inr broken ↦ (p, within, broken-agree net lets _ goal p agree broken) ]
 judged-more net configs lets p goal false false within agree kept lost judged = judged
 
--- a packet of a protocol that has no addresses and no ports
-abbrev plain_packet : ℕ → Header
-plain_packet p = record { src = 0; dst = 0; proto = p; a = 0; b = 0; est = false }
-
 -- with every protocol tried, the verdicts are right
-pub verdict-judged : (net : Network) (configs : List Config) (goal : Goal) (verdict : Bool) → IsJudged net configs 256 goal verdict → IsVerdict net configs goal verdict
-verdict-judged net configs goal true judged = λ hops header path forbidden carries.
-    judged header.proto (valid_widths header forbidden.valid).proto (record {
+pub verdict-judged : (net : Network) (configs : List Config) (goal : Goal) (verdict : Bool) → ConfigsTestProtocols configs → IsJudged net configs 256 goal verdict → IsVerdict net configs goal verdict
+verdict-judged net configs goal true tests judged = λ hops header path forbidden carries.
+    let within : header.proto < 256 = (valid_widths header forbidden.valid).proto in
+    let plain = plain_packet header.proto in
+    let agree : AgreeOnSlots (length net.interfaces) (slot_lets net configs header) (slot_lets net configs plain) =
+    λ s below. same_slot header plain forbidden.valid (valid_bare header.proto within) refl net configs s tests in
+    judged header.proto within (record {
       forbidden = forbidden.protocol;
-      reaches = record { hops = hops; path = path; cross = carries };
+      reaches = record {
+        hops = hops;
+        path = path;
+        cross = cross-agree net.interfaces (slot_lets net configs header) (slot_lets net configs plain) _ hops _ agree path.leads carries;
+      };
     })
-verdict-judged net configs goal false judged = record {
+verdict-judged net configs goal false tests judged = record {
   hops = judged.2.reaches.hops;
   header = plain_packet judged.0;
   path = judged.2.reaches.path;

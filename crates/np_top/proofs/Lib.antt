@@ -1,9 +1,12 @@
 pub mod ConfigLaws
+mod EntryLaws
 mod Judging
 pub mod LineReading
+pub mod ListLaws
 mod Loads
 pub mod Outcomes
-mod Permitting
+mod ProtocolLaws
 pub mod RangeLaws
+mod ReadLists
 mod Spreading
 pub mod TokenLaws

@@ -1,16 +1,18 @@
 -- A configuration's text, in the forms that are read so far.
-use Rattle.std.specs.Prelude.{ℕ, Bool, true, false, ◌&&◌, ◌||◌, nat_le, List, [], ◌∷◌, ◌++◌, Option, Some, None, Result, Ok, Err, codes, if◌then◌else◌}
+use Rattle.std.specs.Prelude.{ℕ, ◌+◌, Bool, true, false, ◌&&◌, ◌||◌, nat_le, nat_lt, List, [], ◌∷◌, ◌++◌, Option, Some, None, Result, Ok, Err, codes, if◌then◌else◌}
 use Rattle.std.specs.Str.{bytes_eq}
 use Rattle.std.specs.Fmt.{decimal}
 use Rattle.std.specs.Option.{option_map, option_and_then}
 use Rattle.np_text.specs.Lines.{lines_of}
 use Rattle.np_text.specs.Words.{words_of}
 use Rattle.np_text.specs.Numbers.{number_of}
-use Rattle.np_top.specs.declared.config.Entry.{Entry}
+use Rattle.np_top.specs.declared.entries.NewEntry.{NewEntry}
 use Rattle.np_top.specs.declared.config.Group.{Group}
 use Rattle.np_top.specs.declared.config.Config.{Config}
 use Rattle.np_top.specs.declared.config.Reading.{Reading}
-use Rattle.np_top.specs.Limits.{entry_limit, has_room}
+use Rattle.np_top.specs.Limits.{entry_limit}
+use Rattle.np_top.specs.Lists.{added}
+use Rattle.np_top.specs.ProtocolEntry.{protocol_entry}
 use Rattle.np_top.specs.Steps.{after_each}
 use Rattle.np_top.specs.Tokens.{entry_protocol}
 use Rattle.np_top.specs.NetText.{begins_with}
@@ -23,20 +25,20 @@ is_extended n = (nat_le 100 n && nat_le n 199) || (nat_le 2000 n && nat_le n 269
 abbrev pub action_of : List ℕ → Option Bool
 action_of word = if bytes_eq word (codes "permit") then Some true else (if bytes_eq word (codes "deny") then Some false else None)
 
--- an entry of this list, with these two last words, is one that the configuration may get
-abbrev pub is_entry : Config → ℕ → List ℕ → List ℕ → Bool
-is_entry config list source destination =
-    is_extended list && bytes_eq source (codes "any") && bytes_eq destination (codes "any") && has_room config.entries entry_limit
+-- an entry of the list with this number, with these two last words, is one that a configuration with so many entries may get
+abbrev pub is_entry : ℕ → ℕ → List ℕ → List ℕ → Bool
+is_entry entries list source destination =
+    is_extended list && bytes_eq source (codes "any") && bytes_eq destination (codes "any") && nat_lt entries entry_limit
 
--- `access-list N permit PROTO any any` or `access-list N deny PROTO any any`, without its first word. The list's name is its
--- number in its shortest form.
-unfoldable pub new_entry : Config → List (List ℕ) → Option Entry
-new_entry config (number ∷ action ∷ protocol ∷ source ∷ destination ∷ []) =
+-- `access-list N permit PROTO any any` or `access-list N deny PROTO any any`, without its first word, where so many entries
+-- stand before it
+unfoldable pub new_entry : ℕ → List (List ℕ) → Option NewEntry
+new_entry entries (number ∷ action ∷ protocol ∷ source ∷ destination ∷ []) =
     option_and_then (λ n. option_and_then (λ permit. option_and_then (λ protocols.
-    if is_entry config n source destination
-    then Some (record { list = decimal n; permit = permit; protocols = protocols }) else None)
+    if is_entry entries n source destination
+    then Some (record { list = n; permit = permit; protocols = protocols }) else None)
     (entry_protocol protocol)) (action_of action)) (number_of number 2699)
-new_entry config _ = None
+new_entry entries _ = None
 
 -- whether this word is the way in: the ways are `in` and `out`
 abbrev pub way_of : List ℕ → Option Bool
@@ -55,15 +57,25 @@ unfoldable pub open_section : Reading → List (List ℕ) → Option Reading
 open_section reading [] = None
 open_section reading (name ∷ more) = Some (record reading { section = Some name })
 
--- an entry closes the section
+-- An entry stands at the end of its list, whose name is its number in its shortest form, and closes the section.
+abbrev pub with_new_entry : Reading → NewEntry → Reading
+with_new_entry reading new =
+    record {
+      section = None;
+      entries = reading.entries + 1;
+      config = record {
+        lists = added reading.config.lists (decimal new.list) (protocol_entry new.permit new.protocols);
+        groups = reading.config.groups;
+      };
+    }
+
 unfoldable pub add_entry : Reading → List (List ℕ) → Option Reading
-add_entry reading words =
-    option_map (λ entry. record { section = None; config = record { entries = reading.config.entries ++ entry ∷ []; groups = reading.config.groups } }) (new_entry reading.config words)
+add_entry reading words = option_map (with_new_entry reading) (new_entry reading.entries words)
 
 -- a group leaves the section open
 unfoldable pub add_group : Reading → List (List ℕ) → Option Reading
 add_group reading words =
-    option_map (λ group. record reading { config = record { entries = reading.config.entries; groups = reading.config.groups ++ group ∷ [] } }) (new_group reading.section words)
+    option_map (λ group. record reading { config = record { lists = reading.config.lists; groups = reading.config.groups ++ group ∷ [] } }) (new_group reading.section words)
 
 -- what a line that isn't skipped leaves
 abbrev pub read_on : Reading → List ℕ → List (List ℕ) → Option Reading
@@ -84,11 +96,11 @@ read_line reading line = read_words reading (words_of line)
 
 -- a device without a configuration has no lists and no groups
 abbrev pub no_config : Config
-no_config = record { entries = []; groups = [] }
+no_config = record { lists = []; groups = [] }
 
 -- a configuration whose first line is to come
 abbrev pub no_reading : Reading
-no_reading = record { section = None; config = no_config }
+no_reading = record { section = None; entries = 0; config = no_config }
 
 -- what has been read, without the section that is open
 abbrev pub config_read : Result Reading ℕ → Result Config ℕ

@@ -1,24 +1,21 @@
 -- Which packets the access lists let cross.
-use Rattle.std.specs.Prelude.{ℕ, ◌/◌, ◌%◌, Bool, true, false, ◌&&◌, not, ◌==◌, if◌then◌else◌, List, [], ◌∷◌, reverse, Option, slice_index_or}
-use Rattle.std.specs.List.{find, filter}
+use Rattle.std.specs.Prelude.{ℕ, ◌/◌, ◌%◌, Bool, true, ◌&&◌, not, ◌==◌, if◌then◌else◌, List, reverse, Option, slice_index_or}
+use Rattle.std.specs.List.{find, AllByRecursion}
 use Rattle.std.specs.Str.{bytes_eq}
 use Rattle.std.specs.Option.{option_map_or}
+use Rattle.np_space.specs.declared.headers.Header.{Header}
+use Rattle.np_acl.specs.Entries.{list_permits}
 use Rattle.np_top.specs.declared.network.Network.{Network}
-use Rattle.np_top.specs.declared.config.Entry.{Entry}
+use Rattle.np_top.specs.declared.lists.NamedList.{NamedList}
 use Rattle.np_top.specs.declared.config.Group.{Group}
 use Rattle.np_top.specs.declared.config.Config.{Config}
 use Rattle.np_top.specs.ConfigText.{no_config}
+use Rattle.np_top.specs.Lists.{list_named, ListsTestProtocols}
 use Rattle.np_top.specs.Path.{interface_at, device_of}
-use Rattle.np_top.specs.Tokens.{protocols_have}
 
--- The first entry of a list that matches decides, and no match denies. A list without entries permits all.
-abbrev pub permits : List Entry → ℕ → Bool
-permits [] protocol = true
-permits (entry ∷ entries) protocol = option_map_or (λ (e : Entry). e.permit) (find (λ e. protocols_have e.protocols protocol) (entry ∷ entries)) false
-
--- the entries of the list with this name
-abbrev pub entries_of : Config → List ℕ → List Entry
-entries_of config list = filter (λ e. bytes_eq e.list list) config.entries
+-- what the list of this name permits, and everything where it isn't defined
+abbrev pub list_lets : List NamedList → List ℕ → Header → Bool
+list_lets lists name h = option_map_or (λ (named : NamedList). list_permits named.list h) (list_named lists name) true
 
 -- the group is for this interface and way
 abbrev pub is_group_of : List ℕ → Bool → Group → Bool
@@ -30,15 +27,19 @@ group_of config interface inward = find (is_group_of interface inward) (reverse 
 
 -- what a configuration lets cross at an interface: what the list that it applies there permits, and everything where it
 -- applies none, or one that isn't defined
-abbrev pub config_lets : Config → List ℕ → Bool → ℕ → Bool
-config_lets config interface inward protocol =
-    option_map_or (λ (g : Group). permits (entries_of config g.list) protocol) (group_of config interface inward) true
+abbrev pub config_lets : Config → List ℕ → Bool → Header → Bool
+config_lets config interface inward h =
+    option_map_or (λ (g : Group). list_lets config.lists g.list h) (group_of config interface inward) true
 
 -- the configuration of the device at this position
 abbrev pub config_at : List Config → ℕ → Config
 config_at configs device = slice_index_or configs device no_config
 
 -- what a slot lets cross: slot 2 * n is interface n inward, and slot 2 * n + 1 is interface n outward
-abbrev pub slot_lets : Network → List Config → ℕ → ℕ → Bool
-slot_lets net configs protocol slot =
-    config_lets (config_at configs (device_of net.interfaces (slot / 2))) (interface_at net.interfaces (slot / 2)).name (slot % 2 == 0) protocol
+abbrev pub slot_lets : Network → List Config → Header → ℕ → Bool
+slot_lets net configs h slot =
+    config_lets (config_at configs (device_of net.interfaces (slot / 2))) (interface_at net.interfaces (slot / 2)).name (slot % 2 == 0) h
+
+-- each entry of each list of the configurations tests the protocol alone
+pub record ConfigsTestProtocols (configs : List Config) : Type 0 where
+  pub each : AllByRecursion (λ (config : Config). ListsTestProtocols config.lists) configs

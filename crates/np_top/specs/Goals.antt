@@ -17,7 +17,7 @@ pub record IsForbidden (goal : Goal) (header : Header) : Type 0 where
 
 -- each hop of the path lets the packet cross
 abbrev pub Carries : Network → List Config → List (ℕ × ℕ) → Header → Type 0
-Carries net configs hops header = AllCross (slot_lets net configs header.proto) hops
+Carries net configs hops header = AllCross (slot_lets net configs header) hops
 
 -- no path from the first area to the second carries a packet that is forbidden
 abbrev pub GoalHolds : Network → List Config → Goal → Type 0

@@ -1,5 +1,6 @@
 -- The judging by protocols: what is known of the goals once some protocols have been tried.
 use Rattle.std.specs.Prelude.{ℕ, ◌<◌, ◌≤◌, Bool, true, false, List, slice_index_or, IsTrue}
+use Rattle.np_space.specs.declared.headers.Header.{Header}
 use Rattle.np_top.specs.declared.network.Goal.{Goal}
 use Rattle.np_top.specs.declared.network.Network.{Network}
 use Rattle.np_top.specs.declared.config.Config.{Config}
@@ -8,6 +9,10 @@ use Rattle.np_top.specs.Goals.{goal_at}
 use Rattle.np_top.specs.Path.{Reaches}
 use Rattle.np_top.specs.Tokens.{protocols_have}
 
+-- a packet of a protocol that has no addresses, no ports and no flag
+abbrev pub plain_packet : ℕ → Header
+plain_packet p = record { src = 0; dst = 0; proto = p; a = 0; b = 0; est = false }
+
 -- some path lets packets of this protocol cross, which the goal forbids
 pub record IsBrokenBy (net : Network) (lets : ℕ → Bool) (goal : Goal) (protocol : ℕ) : Type 0 where
   pub forbidden : IsTrue (protocols_have goal.forbidden protocol)
@@ -15,8 +20,8 @@ pub record IsBrokenBy (net : Network) (lets : ℕ → Bool) (goal : Goal) (proto
 
 -- no protocol below the first one that is untried breaks a goal that still holds, and some protocol breaks one that doesn't
 abbrev pub IsJudged : Network → List Config → ℕ → Goal → Bool → Type 0
-IsJudged net configs untried goal true = (p : ℕ) → p < untried → IsBrokenBy net (slot_lets net configs p) goal p → ⊥
-IsJudged net configs untried goal false = (p : ℕ) × (p < 256) × IsBrokenBy net (slot_lets net configs p) goal p
+IsJudged net configs untried goal true = (p : ℕ) → p < untried → IsBrokenBy net (slot_lets net configs (plain_packet p)) goal p → ⊥
+IsJudged net configs untried goal false = (p : ℕ) × (p < 256) × IsBrokenBy net (slot_lets net configs (plain_packet p)) goal p
 
 -- the goals from first on and below end are so judged
 abbrev pub AreJudged : Network → List Config → ℕ → ℕ → ℕ → List Bool → Type 0

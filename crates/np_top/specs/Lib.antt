@@ -4,6 +4,8 @@ pub mod Tokens
 pub mod NetText
 pub mod NewItems
 pub mod InRange
+pub mod ProtocolEntry
+pub mod Lists
 pub mod ConfigText
 pub mod NewLines
 pub mod Path

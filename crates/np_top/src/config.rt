@@ -1,15 +1,8 @@
 //! A device's configuration, in the forms that are read so far.
 
-use crate::network::{Name, Protocols};
+use crate::lists::Lists;
+use crate::network::Name;
 use sqlite_items::Items;
-
-/// An entry of an access list, which has the list's name.
-#[derive(Drop)]
-pub struct Entry {
-    pub list: Name,
-    pub permit: bool,
-    pub protocols: Protocols,
-}
 
 /// An access list that is applied at an interface, to what comes in there or to what goes out.
 #[derive(Drop)]
@@ -19,17 +12,18 @@ pub struct Group {
     pub list: Name,
 }
 
-/// A configuration: the entries of all its lists and its groups, each in the order of their lines.
+/// A configuration: its access lists, and its groups in the order of their lines.
 #[derive(Drop)]
 pub struct Config {
-    pub entries: Items<Entry>,
+    pub lists: Lists,
     pub groups: Items<Group>,
 }
 
-/// A configuration while it is read: what the lines so far have declared, and the interface whose section they
-/// leave open.
+/// A configuration while it is read: what the lines so far have declared, with how many entries, and the interface
+/// whose section they leave open.
 #[derive(Drop)]
 pub struct Reading {
     pub section: Option<Name>,
+    pub entries: usize,
     pub config: Config,
 }

@@ -4,13 +4,16 @@ ghost use Rattle.std.specs.Prelude.{◌≡◌, Ok, IfOk, IfErr};
 ghost use Rattle.std.specs.Fmt.{decimal};
 ghost use Rattle.np_top.specs.ConfigText as config_text;
 ghost use Rattle.np_top.specs.ConfigText.{config_of};
+ghost use Rattle.np_top.specs.Lists.{ListsTestProtocols};
 ghost use Rattle.np_top.specs.NetText.{begins_with};
 ghost use Rattle.np_top.specs.Steps.{left_by, IsRefusal};
 ghost use Rattle.np_top.specs.Tokens.{texts};
 
-use crate::config::{Config, Entry, Group, Reading};
+use crate::config::{Config, Group, Reading};
 use crate::entries::{new_entry, new_group};
+use crate::lists::Lists;
 use crate::network::Name;
+use crate::protocol_entry::protocol_entry;
 use crate::reader_error::ReaderError;
 use np_text::{lines, put_number, word_list};
 use sqlite_items::Items;
@@ -42,16 +45,14 @@ fn list_name(alloc: Global, number: u64) -> Result<Name, AllocError>
 fn add_entry(alloc: Global, reading: &mut Reading, words: &[&[u8]]) -> Result<bool, AllocError>
     ensures { IfOk result (λ taken. config_text.add_entry reading.old (texts words.now) ≡ left_by taken reading.new) }
 {
-    let Some(new) = new_entry(&reading.config, words) else {
+    let Some(new) = new_entry(reading.entries, words) else {
         return Ok(false);
     };
     let list = list_name(alloc, new.list)?;
-    reading.config.entries.push(Entry {
-        list,
-        permit: new.permit,
-        protocols: new.protocols,
-    })?;
+    let entry = protocol_entry(alloc, new.permit, new.protocols)?;
+    reading.config.lists.add(alloc, list, entry)?;
     reading.section = None;
+    reading.entries += 1;
     Ok(true)
 }
 
@@ -129,10 +130,11 @@ fn read_line(alloc: Global, reading: &mut Reading, line: &[u8]) -> Result<bool, 
 
 /// The configuration of a device that has none: no lists and no groups.
 pub fn no_config(alloc: Global) -> Config
-    ensures { result ≡ config_text.no_config }
+    ensures none { result ≡ config_text.no_config }
+    ensures protocols { ListsTestProtocols result.lists }
 {
     Config {
-        entries: Items::new(alloc),
+        lists: Lists::new(alloc),
         groups: Items::new(alloc),
     }
 }
@@ -143,11 +145,12 @@ fn no_reading(alloc: Global) -> Reading
 {
     Reading {
         section: None,
+        entries: 0,
         config: no_config(alloc),
     }
 }
 
-/// What a configuration's text says: its entries and its groups.
+/// What a configuration's text says: its access lists and its groups.
 ///
 /// A line in any other form than those that are read so far is refused: `Refused` has the number of the first such
 /// line.
@@ -155,6 +158,7 @@ fn no_reading(alloc: Global) -> Reading
 pub fn read_config(alloc: Global, bytes: &[u8]) -> Result<Config, ReaderError>
     ensures ok { IfOk result (λ config. config_of bytes.now ≡ Ok config) }
     ensures refused { IfErr result (λ error. IsRefusal (config_of bytes.now) error) }
+    ensures protocols { IfOk result (λ config. ListsTestProtocols config.lists) }
 {
     let mut reading = no_reading(alloc);
     for line in lines(bytes) {
@@ -162,6 +166,6 @@ pub fn read_config(alloc: Global, bytes: &[u8]) -> Result<Config, ReaderError>
             return Err(ReaderError::Refused(line.number));
         }
     }
-    let Reading { section: _, config } = reading;
+    let Reading { config, .. } = reading;
     Ok(config)
 }

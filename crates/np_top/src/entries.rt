@@ -1,12 +1,13 @@
 //! The lines of a configuration's text that are not skipped, in the forms that are read so far.
 
-ghost use Rattle.std.specs.Prelude.{◌≡◌, [], ◌∷◌, Some};
+ghost use Rattle.std.specs.Prelude.{◌≡◌, ◌<◌, [], ◌∷◌, Some, OnSome};
 ghost use Rattle.std.specs.Option.{option_map};
 ghost use Rattle.np_top.specs.ConfigText as config_text;
-ghost use Rattle.np_top.specs.NewLines.{declared_entry, declared_group};
+ghost use Rattle.np_top.specs.Limits.{entry_limit};
+ghost use Rattle.np_top.specs.NewLines.{declared_group};
 ghost use Rattle.np_top.specs.Tokens.{texts};
 
-use crate::config::{Config, Reading};
+use crate::config::Reading;
 use crate::network::Protocols;
 use crate::tokens::entry_protocol;
 use np_text::number;
@@ -57,32 +58,33 @@ pub struct NewEntry {
     pub protocols: Protocols,
 }
 
-/// Whether an entry's last two words are `any`, and it has an extended list's number and room in its configuration.
-fn is_entry(config: &Config, list: u64, source: &[u8], destination: &[u8]) -> bool
-    ensures { result ≡ config_text.is_entry config.now list source.now destination.now }
+/// Whether an entry's last two words are `any`, and it has an extended list's number and room behind so many entries.
+fn is_entry(entries: usize, list: u64, source: &[u8], destination: &[u8]) -> bool
+    ensures { result ≡ config_text.is_entry entries list source.now destination.now }
 {
     is_extended(list)
         && source == b"any".as_slice()
         && destination == b"any".as_slice()
-        && config.entries.len() < ENTRY_LIMIT
+        && entries < ENTRY_LIMIT
 }
 
 /// A new entry, from the five words behind its line's first.
 #[tactic(auto, unfolding(crate::specs::ConfigText::new_entry))]
 fn entry_of(
-    config: &Config,
+    entries: usize,
     list: &[u8],
     permit: &[u8],
     protocols: &[u8],
     source: &[u8],
     destination: &[u8],
 ) -> Option<NewEntry>
-    ensures { option_map declared_entry result ≡ config_text.new_entry config.now (list.now ∷ permit.now ∷ protocols.now ∷ source.now ∷ destination.now ∷ []) }
+    ensures entry { result ≡ config_text.new_entry entries (list.now ∷ permit.now ∷ protocols.now ∷ source.now ∷ destination.now ∷ []) }
+    ensures room { OnSome result (entries < entry_limit) }
 {
     let list = number(list, LIST_LIMIT)?;
     let permit = action(permit)?;
     let protocols = entry_protocol(protocols)?;
-    if is_entry(config, list, source, destination) {
+    if is_entry(entries, list, source, destination) {
         Some(NewEntry {
             list,
             permit,
@@ -93,15 +95,16 @@ fn entry_of(
     }
 }
 
-/// A new entry, from its line without the first word.
+/// A new entry behind so many, from its line without the first word.
 #[tactic(auto, using(crate::proofs::ConfigLaws::no_entry_by_few, crate::proofs::ConfigLaws::no_entry_by_many))]
-pub fn new_entry(config: &Config, words: &[&[u8]]) -> Option<NewEntry>
-    ensures { option_map declared_entry result ≡ config_text.new_entry config.now (texts words.now) }
+pub fn new_entry(entries: usize, words: &[&[u8]]) -> Option<NewEntry>
+    ensures entry { result ≡ config_text.new_entry entries (texts words.now) }
+    ensures room { OnSome result (entries < entry_limit) }
 {
     let [list, permit, protocols, source, destination] = words else {
         return None;
     };
-    entry_of(config, list, permit, protocols, source, destination)
+    entry_of(entries, list, permit, protocols, source, destination)
 }
 
 /// A group that a line gives.

@@ -1,6 +1,7 @@
 //! The verdicts on the goals, protocol by protocol.
 
 ghost use Rattle.std.specs.Prelude.{◌≡◌, ℕ, ◌+◌, ◌*◌, ◌<◌, ◌↔◌, ◌⊎◌, true, false, length, IfOk, OnOk, IsTrue};
+ghost use Rattle.np_top.specs.Filter.{ConfigsTestProtocols};
 ghost use Rattle.np_top.specs.Goals.{AreVerdicts};
 ghost use Rattle.np_top.specs.Judged.{AreJudged, IsBrokenBy};
 ghost use Rattle.np_top.specs.InRange.{IsInRange};
@@ -10,6 +11,7 @@ use crate::config::Config;
 use crate::filter::slots;
 use crate::network::{Goal, Network};
 use crate::reach::reached;
+use np_space::Header;
 use std::alloc::{AllocError, Global};
 
 /// How many protocols there are: 0 to 255.
@@ -65,7 +67,8 @@ fn still_holds(
     Ok(!broken)
 }
 
-/// Tries one more protocol on each goal that still holds.
+/// Tries one more protocol on each goal that still holds: by a packet without addresses, ports and flag, since the lists
+/// test the protocol alone.
 fn judge_protocol(
     alloc: Global,
     net: &Network,
@@ -79,7 +82,15 @@ fn judge_protocol(
     requires judged { AreJudged net.now configs.now protocol 0 (length net.now.goals) verdicts.old }
     ensures { OnOk result (AreJudged net.now configs.now (protocol + 1) 0 (length net.now.goals) verdicts.new) }
 {
-    let lets = slots(alloc, net, configs, protocol)?;
+    let header = Header {
+        src: 0,
+        dst: 0,
+        proto: protocol,
+        a: 0,
+        b: 0,
+        est: false,
+    };
+    let lets = slots(alloc, net, configs, &header)?;
     let goals = net.goals.as_slice();
     for n in 0..goals.len() {
         verdicts[n] = still_holds(alloc, net, lets.as_slice(), goals[n], protocol, verdicts[n])?;
@@ -91,6 +102,7 @@ fn judge_protocol(
 pub fn judge(alloc: Global, net: &Network, configs: &[Config]) -> Result<Vec<bool>, AllocError>
     requires in_range { IsInRange net.now }
     requires configs { length configs.now ≡ length net.now.devices }
+    requires protocols { ConfigsTestProtocols configs.now }
     ensures { IfOk result (λ verdicts. AreVerdicts net.now configs.now verdicts.items) }
 {
     let mut verdicts = vec![in alloc; true; net.goals.len()]?;

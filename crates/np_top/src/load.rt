@@ -6,7 +6,9 @@ ghost use Rattle.np_outside.specs.Counts.{Rose};
 ghost use Rattle.np_outside.specs.Files.{Files};
 ghost use Rattle.np_top.specs.declared.load.Halt.TheVariants as halts;
 ghost use Rattle.np_top.specs.ConfigText.{config_of};
+ghost use Rattle.np_top.specs.Filter.{ConfigsTestProtocols};
 ghost use Rattle.np_top.specs.Limits.{file_limit};
+ghost use Rattle.np_top.specs.Lists.{ListsTestProtocols};
 ghost use Rattle.np_top.specs.Loading.{Loads, HaltsBy};
 ghost use Rattle.np_top.specs.NetText.{net_of};
 ghost use Rattle.np_top.specs.Outcome.{file_says, device_says, configs_say, inputs_of};
@@ -103,6 +105,7 @@ fn load_network<S: Shelf>(alloc: Global, shelf: &mut S, file: &[u8]) -> Result<N
 /// The configuration that a file holds.
 fn load_file<S: Shelf>(alloc: Global, shelf: &mut S, file: &[u8]) -> Result<Config, Halt>
     ensures says { (files : Files) → S.files shelf.old ≡ Some files → Loads result (file_says config_of files file.now) }
+    ensures protocols { IfOk result (λ config. ListsTestProtocols config.lists) }
 
     ensures failed { IsErrOf result Halt.ReadFault → Rose (S.faults shelf.old) (S.faults shelf.new) }
     ensures broken { IsErrOf result Halt.ReadFault → (files : Files) → S.files shelf.old ≡ Some files →
@@ -122,6 +125,7 @@ fn load_file<S: Shelf>(alloc: Global, shelf: &mut S, file: &[u8]) -> Result<Conf
 /// A device's configuration; without a file it is empty.
 fn load_config<S: Shelf>(alloc: Global, shelf: &mut S, device: &Device) -> Result<Config, Halt>
     ensures says { (files : Files) → S.files shelf.old ≡ Some files → Loads result (device_says files device.now) }
+    ensures protocols { IfOk result (λ config. ListsTestProtocols config.lists) }
 
     ensures failed { IsErrOf result Halt.ReadFault → Rose (S.faults shelf.old) (S.faults shelf.new) }
     ensures broken { IsErrOf result Halt.ReadFault → (files : Files) → S.files shelf.old ≡ Some files →
@@ -145,6 +149,7 @@ fn load_configs<S: Shelf>(
 ) -> Result<Items<Config>, Halt>
     ensures says { (files : Files) → S.files shelf.old ≡ Some files → Loads result (configs_say files devices.now) }
     ensures len { IfOk result (λ configs. length configs ≡ length devices.now) }
+    ensures protocols { IfOk result (λ configs. ConfigsTestProtocols configs) }
 
     ensures failed { IsErrOf result Halt.ReadFault → Rose (S.faults shelf.old) (S.faults shelf.new) }
     ensures broken { IsErrOf result Halt.ReadFault → (files : Files) → S.files shelf.old ≡ Some files →
@@ -174,6 +179,7 @@ pub fn load<S: Shelf>(alloc: Global, shelf: &mut S, file: &[u8]) -> Result<Input
     ensures says { (files : Files) → S.files shelf.old ≡ Some files → Loads result (inputs_of files file.now) }
     ensures in_range { IfOk result (λ inputs. IsInRange inputs.net) }
     ensures len { IfOk result (λ inputs. length inputs.configs ≡ length inputs.net.devices) }
+    ensures protocols { IfOk result (λ inputs. ConfigsTestProtocols inputs.configs) }
 
     ensures failed { IsErrOf result Halt.ReadFault → Rose (S.faults shelf.old) (S.faults shelf.new) }
     ensures broken { IsErrOf result Halt.ReadFault → (files : Files) → S.files shelf.old ≡ Some files →

@@ -6,5 +6,5 @@ use Rattle.np_top.proofs.filter.slots.Given as goal
 abbrev pub invariant-loop-slot : goal.invariant-loop-slot
 invariant-loop-slot l = record {
   len : vec_len l.lets ≡ 2 * length l.net.interfaces;
-  lets : (s : ℕ) → s < l.slot → is_marked l.lets.items s ≡ slot_lets l.net l.configs l.protocol s;
+  lets : (s : ℕ) → s < l.slot → is_marked l.lets.items s ≡ slot_lets l.net l.configs l.header s;
 }

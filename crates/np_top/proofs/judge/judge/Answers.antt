@@ -9,5 +9,5 @@ returns c =
     let judged = subst (λ p. AreJudged c.args.net.now c.args.configs.now p 0 (length c.args.net.now.goals) c.loop-protocol.verdicts.items) all c.loop-protocol.invariant.judged in
     record {
       len = search rules;
-      each = λ n within. verdict-judged c.args.net.now c.args.configs.now _ _ (judged n (omega arith) within);
+      each = λ n within. verdict-judged c.args.net.now c.args.configs.now _ _ c.requires.protocols (judged n (omega arith) within);
     }

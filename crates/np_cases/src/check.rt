@@ -1,6 +1,7 @@
 //! `check NET`.
 
-use crate::runs::{expect, shelf, status};
+use crate::given::shelf;
+use crate::runs::{expect, status};
 use np_outside::MemSink;
 use std::test::Fail;
 

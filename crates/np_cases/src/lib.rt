@@ -1,6 +1,10 @@
 //! Whole runs over files and a sink in memory. Each worked case is a line of a table.
 #![tactic(auto)]
 
+mod given;
+
+pub use given::{shelf, words};
+
 #[cfg(test)]
 mod check;
 #[cfg(test)]

@@ -1,5 +1,6 @@
 //! How a case is run.
 
+use crate::given::{shelf, words};
 use np_outside::{MemShelf, MemSink};
 use np_top::run;
 use std::alloc::{AllocError, Global};
@@ -10,26 +11,8 @@ use std::thread::Threads;
 /// Room for the text of any case.
 const ROOM: usize = 65_536;
 
-/// The words of a command line.
-fn words(alloc: Global, words: &[&str]) -> Result<Vec<String>, AllocError> {
-    let mut owned = Vec::new(alloc);
-    for word in words {
-        owned.push(String::from_str(alloc, word)?)?;
-    }
-    Ok(owned)
-}
-
-/// A shelf with these files, each a name and its text.
-pub fn shelf(alloc: Global, files: &[(&str, &str)]) -> Result<MemShelf, AllocError> {
-    let mut shelf = MemShelf::new(alloc);
-    for (name, text) in files {
-        shelf.put(name.as_bytes(), text.as_bytes())?;
-    }
-    Ok(shelf)
-}
-
-/// The status of a run of these words, split at blanks, over a shelf and a sink.
-pub fn status<R: Threads + Sync>(
+/// The number of the status of a run of these words over a shelf and a sink.
+pub(crate) fn status<R: Threads + Sync>(
     rt: &R,
     alloc: Global,
     line: &[&str],
@@ -41,7 +24,7 @@ pub fn status<R: Threads + Sync>(
 }
 
 /// Runs these words over these files, and compares the text and the status.
-pub fn expect<R: Threads + Sync + Abort>(
+pub(crate) fn expect<R: Threads + Sync + Abort>(
     rt: &R,
     alloc: Global,
     case: &str,

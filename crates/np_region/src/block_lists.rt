@@ -35,8 +35,18 @@ pub struct BlockLists {
 }
 
 impl BlockLists {
-    /// A store that takes its memory from the allocator.
-    pub fn new(alloc: Global) -> BlockLists {
+    ghost use Rattle.std.specs.Prelude.{List};
+    ghost use Rattle.np_space.specs.Block.{any_has};
+    ghost use Rattle.np_space.specs.declared.headers.Header.{Header};
+    ghost use Rattle.np_space.specs.declared.blocks.Block.{Block};
+    ghost use Rattle.np_region.specs.BlockLists.{IsBlockList};
+
+    /// A store that takes its memory from the allocator. Every list of blocks that is a region of
+    /// one such store is a region of this one too, with the same headers.
+    pub fn new(alloc: Global) -> BlockLists
+        ensures fits { (x : List Block) → IsBlockList x → ⟦<BlockLists as Regions>⟧.fits result x }
+        ensures same { (x : List Block) (h : Header) → ⟦<BlockLists as Regions>⟧.has_header result x h ≡ any_has x h }
+    {
         BlockLists { alloc }
     }
 }

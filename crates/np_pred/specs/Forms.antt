@@ -7,6 +7,7 @@ use Rattle.np_pred.specs.declared.reading.Begun.{Begun}
 use Rattle.np_pred.specs.declared.reading.Begun.TheVariants as begun
 use Rattle.np_pred.specs.Patterns.{are_prefixes}
 
+-- each pattern of one predicate is a prefix, with the answers for its operands in their places
 abbrev pub prefixes_step : Pred-F Bool → Bool
 prefixes_step Any = true
 prefixes_step Nothing = true
@@ -26,6 +27,7 @@ prefixes_step (Or p q) = p && q
 abbrev pub has_prefixes : Pred → Bool
 has_prefixes p = fold-Pred Bool prefixes_step p
 
+-- each number of one byte is one, with the answers for its operands in their places
 abbrev pub octets_step : Pred-F Bool → Bool
 octets_step Any = true
 octets_step Nothing = true
@@ -45,6 +47,7 @@ octets_step (Or p q) = p && q
 abbrev pub has_octets : Pred → Bool
 has_octets p = fold-Pred Bool octets_step p
 
+-- how deep one predicate nests, with the depths of its operands in their places
 abbrev pub nesting_step : Pred-F ℕ → ℕ
 nesting_step Any = 1
 nesting_step Nothing = 1
@@ -70,6 +73,7 @@ pub record IsWellFormed (levels : ℕ) (p : Pred) : Type 0 where
   pub octets : IsTrue (has_octets p)
   pub nested : nesting p ≤ levels
 
+-- what a word begins is well formed: a predicate without operands, or an operator
 abbrev pub IsBegunWell : Begun → Type 0
 IsBegunWell (begun.Whole p) = IsWellFormed 1 p
 IsBegunWell (begun.Open o) = Unit {0}

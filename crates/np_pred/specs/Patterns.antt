@@ -11,6 +11,7 @@ use Rattle.np_pred.specs.Made.{prefix_pattern}
 abbrev pub is_prefix : Ternary → Bool
 is_prefix p = p.wild == 2 ^ count_ones p.wild - 1
 
+-- each of the patterns is a prefix
 abbrev pub are_prefixes : List Ternary → Bool
 are_prefixes patterns = list_all is_prefix patterns
 

@@ -28,6 +28,7 @@ pub record Rest : Type 0 where
   pub at : ℕ
   pub words : List (List ℕ)
 
+-- these words, the first of them at this position
 abbrev pub rest_from : ℕ → List (List ℕ) → Rest
 rest_from at words = record { at = at; words = words }
 
@@ -35,6 +36,7 @@ rest_from at words = record { at = at; words = words }
 abbrev pub Read : Type 0 → Type 0
 Read X = Result (X × Rest) PredError
 
+-- goes on with the value, and gives the first fault as it is
 infixl 10 ◌>>=◌
 abbrev pub ◌>>=◌ : {A B : Type 0} → Result A PredError → (A → Result B PredError) → Result B PredError
 (Ok x) >>= f = f x
@@ -45,11 +47,13 @@ abbrev pub word_in : ℕ → List (List ℕ) → Read (List ℕ)
 word_in at [] = Err fault.Unfinished
 word_in at (word ∷ words) = Ok (word, record { at = at + 1; words = words })
 
+-- the first of the words that are left
 abbrev pub word_at : Rest → Read (List ℕ)
 word_at rest = word_in rest.at rest.words
 
 -- ---- arguments
 
+-- the first byte is a letter
 abbrev pub has_letter_first : List ℕ → Bool
 has_letter_first [] = false
 has_letter_first (b ∷ bs) = is_ascii_alphabetic b
@@ -68,6 +72,7 @@ sources_of areas at word =
 abbrev pub octet_of : ℕ → List ℕ → Result ℕ PredError
 octet_of at word = ok_or (number_of word 255) (fault.BadWord at)
 
+-- a port, or the first and the last of several
 abbrev pub span_of : ℕ → List ℕ → Result Span PredError
 span_of at word = ok_or (ports_of word) (fault.BadWord at)
 
@@ -81,6 +86,7 @@ argument_of areas field.DstPort at word = span_of at word >>= λ value. Ok (pred
 argument_of areas field.IcmpType at word = octet_of at word >>= λ value. Ok (pred.IcmpType value)
 argument_of areas field.IcmpCode at word = octet_of at word >>= λ value. Ok (pred.IcmpCode value)
 
+-- the same with the word taken from those that are left
 unfoldable pub argument_at : AreaList → Field → Rest → Read Pred
 argument_at areas f rest = word_at rest >>= λ word. argument_of areas f rest.at word.0 >>= λ p. Ok (p, word.1)
 
@@ -93,6 +99,7 @@ begun_as areas at rest None (Some f) o = argument_at areas f rest >>= λ p. Ok (
 begun_as areas at rest None None (Some o) = Ok (begun.Open o, rest)
 begun_as areas at rest None None None = Err (fault.BadWord at)
 
+-- what the first of the words that are left begins
 unfoldable pub begun_at : AreaList → Rest → Read Begun
 begun_at areas rest = word_at rest >>= λ word. begun_as areas rest.at word.1 (constant_of word.0) (field_of word.0) (operator_of word.0)
 
@@ -123,6 +130,7 @@ pred_of areas words = pred_at areas 64 (rest_from 0 words) >>= λ p. nothing_beh
 abbrev pub texts : List Word → List (List ℕ)
 texts words = map (λ word. word.bytes.now) words
 
+-- what a call leaves, with its position
 abbrev pub rest_of : Left → Rest
 rest_of left = record { at = left.at; words = texts left.words.now }
 

@@ -69,6 +69,7 @@ with_new_entry reading new =
       };
     }
 
+-- what is read so far with the entry of an `access-list` line, and nothing where it is refused
 unfoldable pub add_entry : Reading → List (List ℕ) → Option Reading
 add_entry reading words = option_map (with_new_entry reading) (new_entry reading.entries words)
 

@@ -9,6 +9,7 @@ use Rattle.np_top.specs.Spread.{AreWithin}
 abbrev pub AreBetween : List Goal → ℕ → Type 0
 AreBetween goals areas = All (λ (goal : Goal). (goal.from < areas) × (goal.to < areas)) goals
 
+-- a network within the limits, in which each position has its declaration
 pub record IsInRange (net : Network) : Type 0 where
   pub areas : length net.areas ≤ declaration_limit
   pub devices : length net.devices ≤ declaration_limit

@@ -9,6 +9,7 @@ file_limit = 16777216
 abbrev pub declaration_limit : ℕ
 declaration_limit = 256
 
+-- the interfaces of a network
 abbrev pub interface_limit : ℕ
 interface_limit = 1024
 

@@ -72,16 +72,19 @@ new_goal net (from ∷ to ∷ keyword ∷ predicate) =
     then Some (record { from = f; to = t; forbidden = forbidden }) else None)
     (predicate_of predicate)) (area_named net to)) (area_named net from)
 
--- the network with an area, a device, an interface or a goal that a statement declares, and nothing where it is refused
+-- the network with the area that a statement declares, and nothing where it is refused
 unfoldable pub declare_area : Network → List (List ℕ) → Option Network
 declare_area net words = option_map (λ area. record net { areas = net.areas ++ area ∷ [] }) (new_area net words)
 
+-- the same for a device
 unfoldable pub declare_device : Network → List (List ℕ) → Option Network
 declare_device net words = option_map (λ device. record net { devices = net.devices ++ device ∷ [] }) (new_device net words)
 
+-- the same for an interface
 unfoldable pub declare_interface : Network → List (List ℕ) → Option Network
 declare_interface net words = option_map (λ interface. record net { interfaces = net.interfaces ++ interface ∷ [] }) (new_interface net words)
 
+-- the same for a goal
 unfoldable pub declare_goal : Network → List (List ℕ) → Option Network
 declare_goal net words = option_map (λ goal. record net { goals = net.goals ++ goal ∷ [] }) (new_goal net words)
 

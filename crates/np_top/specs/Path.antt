@@ -6,10 +6,11 @@ use Rattle.np_top.specs.declared.network.Interface.{Interface}
 abbrev pub interface_at : List Interface → ℕ → Interface
 interface_at interfaces n = slice_index_or interfaces n record { name = []; device = 0; area = 0 }
 
--- the device that an interface belongs to, and the area that it is on
+-- the device that an interface belongs to
 abbrev pub device_of : List Interface → ℕ → ℕ
 device_of interfaces n = (interface_at interfaces n).device
 
+-- the area that an interface is on
 abbrev pub area_of : List Interface → ℕ → ℕ
 area_of interfaces n = (interface_at interfaces n).area
 

@@ -45,6 +45,7 @@ summary_text verdicts = line (if all_hold verdicts then codes "holds" else codes
 abbrev pub verdicts_text : List Bool → List ℕ
 verdicts_text verdicts = goals_text 1 verdicts ++ summary_text verdicts
 
+-- the status that goes with the verdicts
 abbrev pub verdicts_status : List Bool → Status
 verdicts_status verdicts = if all_hold verdicts then Holds else Fails
 

@@ -1,13 +1,14 @@
-// A library with one function.
+//! A network's text: how it is read, and its canonical form.
 #![tactic(auto)]
 
-ghost use Rattle.std.specs.Prelude.{◌≡◌};
-ghost use Rattle.np_net_read.specs.Echo.{echo_of};
+mod canonical;
+mod declared;
+mod fault;
+mod line_error;
+mod names;
+mod reading;
+mod statement;
 
-// The `ensures` clause is the contract: what `echo` returns is `echo_of` of its argument, a definition
-// in `specs/Echo.antt`, which a caller's clause can cite too.
-pub fn echo(x: usize) -> usize
-    ensures { result ≡ echo_of x }
-{
-    x
-}
+pub use canonical::put_net;
+pub use fault::{NetError, NetFault, NetWhy};
+pub use reading::read_net;

@@ -1,0 +1,20 @@
+//! The statements of a network's text.
+
+use np_net::{Area, Device, Goal, Interface};
+
+/// What a line declares. Each name that it uses stands for its place among the declarations.
+#[derive(Debug, Drop)]
+pub enum Statement {
+    /// `depth D`
+    Depth(u8),
+    /// `area NAME ADDRS [trusted]`
+    Area(Area),
+    /// `device NAME [config FILE] [trusted]`
+    Device(Device),
+    /// `interface DEV IF AREA`
+    Interface(Interface),
+    /// `free DEV IF in` or `free DEV IF out`, by the slot.
+    Free(u16),
+    /// `goal AREA AREA never PRED` or `goal AREA AREA only PRED`
+    Goal(Goal),
+}

@@ -8,6 +8,7 @@ mod line_error;
 mod names;
 mod reading;
 mod statement;
+mod tokens;
 
 pub use canonical::put_net;
 pub use fault::{NetError, NetFault, NetWhy};

@@ -42,6 +42,14 @@ impl Names {
         Ok(self.names.get_index_of(&name))
     }
 
+    /// Whether a name is there.
+    pub fn has(&self, alloc: Global, name: &[u8]) -> Result<bool, AllocError>
+        ensures { IfOk result (λ found. found ≡ list_any (bytes_eq name.now) self.now) }
+    {
+        let name = Name::of(alloc, name)?;
+        Ok(self.names.contains(&name))
+    }
+
     /// Adds a name that isn't there.
     pub fn add(&mut self, alloc: Global, name: &[u8]) -> Result<(), AllocError>
         requires { list_any (bytes_eq name.now) self.old ≡ false }
@@ -88,6 +96,14 @@ impl Places {
     {
         let name = Name::of(alloc, name)?;
         Ok(self.places.get_index_of(&(device, name)))
+    }
+
+    /// Whether an interface is there.
+    pub fn has(&self, alloc: Global, device: u16, name: &[u8]) -> Result<bool, AllocError>
+        ensures { IfOk result (λ found. found ≡ list_any (same_place (device, name.now)) self.now) }
+    {
+        let name = Name::of(alloc, name)?;
+        Ok(self.places.contains(&(device, name)))
     }
 
     /// Adds an interface that isn't there.

@@ -1,1 +1,4 @@
 pub mod DeclarationLaws
+pub mod DraftLaws
+pub mod ListLaws
+pub mod SoundLaws

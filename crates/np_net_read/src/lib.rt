@@ -3,11 +3,14 @@
 
 mod canonical;
 mod declared;
+mod draft;
+mod endings;
 mod fault;
 mod line_error;
 mod names;
 mod reading;
 mod statement;
+mod statements;
 mod tokens;
 
 pub use canonical::put_net;

@@ -1,6 +1,6 @@
 //! The words of a line, and what single words say.
 
-ghost use Rattle.std.specs.Prelude.{◌≡◌, ◌*◌, ◌+◌, ◌<◌, ◌≤◌, ◌==◌, false, map, IfOk, IfErr, IfSome, IsTrue, OnOk, Ok, length, nat_lt};
+ghost use Rattle.std.specs.Prelude.{◌≡◌, ◌∷◌, ◌*◌, ◌+◌, ◌<◌, ◌≤◌, ◌==◌, false, map, IfOk, IfErr, IfSome, IsTrue, OnOk, Ok, length, nat_lt};
 ghost use Rattle.std.specs.List.{list_all, list_any};
 ghost use Rattle.std.specs.Str.{bytes_eq};
 ghost use Rattle.np_text.specs.Words.{words_of};
@@ -48,6 +48,7 @@ pub fn words_in(alloc: Global, line: &[u8]) -> Result<Vec<Word<'_>>, AllocError>
 /// The first word, and the words behind it.
 pub fn next_word<'a>(words: &'a [Word<'a>]) -> Result<(&'a [u8], &'a [Word<'a>]), LineError>
     ensures ok { IfOk result (λ next. word_in (texts words.now) ≡ Ok (next.0.now, texts next.1.now)) }
+    ensures split { IfOk result (λ next. texts words.now ≡ next.0.now ∷ texts next.1.now) }
     ensures err { IfErr result (λ e. StopsAs e (word_in (texts words.now))) }
 {
     let [first, rest @ ..] = words else {

@@ -1,0 +1,147 @@
+-- A statement that fits behind what is declared leaves declarations that make a network.
+use Rattle.std.proofs.Common.{◌≡◌, ℕ, ◌<◌, ◌≤◌, ◌+◌, ◌*◌, Bool, false, List, [], ◌∷◌, ◌++◌, length, map, Option, Some, None, refl, sym, ◌∙◌, ap, arith}
+use Rattle.std.specs.List.{AllByRecursion, list_any}
+use Rattle.std.specs.Str.{bytes_eq}
+use Rattle.std.proofs.lemmas.List.{map-append}
+use Rattle.np_net.specs.Distinct.{AreNewAfter, AreDistinct, same_place}
+use Rattle.np_net.specs.Network.{IsArea, IsDevice, IsInterface, IsGoal}
+use Rattle.np_net.specs.Plan.{area_names, device_names, interface_names}
+use Rattle.np_net.specs.declared.filtering.Area.{Area}
+use Rattle.np_net.specs.declared.filtering.Device.{Device}
+use Rattle.np_net.specs.declared.filtering.Interface.{Interface}
+use Rattle.np_net.specs.declared.filtering.Goal.{Goal}
+use Rattle.np_net_read.specs.declared.declared.Declared.{Declared}
+use Rattle.np_net_read.specs.declared.statement.Statement.{Statement}
+use Rattle.np_net_read.specs.declared.statement.Statement.TheVariants as statement
+use Rattle.np_net_read.specs.Fitting.{Fits, IsSound, added, IsNewDepth, IsNewArea, IsNewDevice, IsNewInterface, IsNewSlot, IsNewGoal}
+use Rattle.np_net_read.proofs.ListLaws.{all_more, all_weaker, new_more, length_more}
+
+more_room : {X : Type 0} (limit : ℕ) (xs : List X) (x : X) → length xs < limit → length (xs ++ x ∷ []) ≤ limit
+more_room limit xs x room = let more = length_more xs x in omega arith
+
+-- one more distinct name
+distinct_more : {X K : Type 0} (eq : K → K → Bool) (key : X → K) (xs : List X) (x : X) → AreDistinct eq (map key xs) → list_any (eq (key x)) (map key xs) ≡ false → AreDistinct eq (map key (xs ++ x ∷ []))
+distinct_more eq key xs x distinct none = rw (map-append key xs (x ∷ [])) (new_more eq [] (map key xs) (key x) distinct none)
+
+interface_stays : (devices more_devices areas more_areas : ℕ) → devices ≤ more_devices → areas ≤ more_areas → (i : Interface) → IsInterface devices areas i → IsInterface more_devices more_areas i
+interface_stays devices more_devices areas more_areas d a i is = record { name = is.name; device = (let h = is.device in omega arith); area = (let h = is.area in omega arith) }
+
+goal_stays : (areas more_areas : ℕ) → areas ≤ more_areas → (g : Goal) → IsGoal areas g → IsGoal more_areas g
+goal_stays areas more_areas a g is = record { from = (let h = is.from in omega arith); to = (let h = is.to in omega arith); apart = is.apart; pred = is.pred }
+
+longer : {X : Type 0} (xs : List X) (x : X) → length xs ≤ length (xs ++ x ∷ [])
+longer xs x = let more = length_more xs x in omega arith
+
+sound_area : (d : Declared) (a : Area) → IsSound d → IsNewArea d a → IsSound (added d (statement.Area a))
+sound_area d a sound new = record {
+  area_room = more_room _ d.areas a new.room;
+  device_room = sound.device_room;
+  interface_room = sound.interface_room;
+  goal_room = sound.goal_room;
+  area_names = distinct_more bytes_eq (λ area. area.name) d.areas a sound.area_names new.new;
+  device_names = sound.device_names;
+  interface_names = sound.interface_names;
+  areas = all_more _ d.areas a sound.areas new.formed;
+  devices = sound.devices;
+  interfaces = all_weaker _ _ d.interfaces (interface_stays (length d.devices) (length d.devices) (length d.areas) (length (d.areas ++ a ∷ [])) (omega arith) (longer d.areas a)) sound.interfaces;
+  freed = sound.freed;
+  goals = all_weaker _ _ d.goals (goal_stays (length d.areas) (length (d.areas ++ a ∷ [])) (longer d.areas a)) sound.goals;
+  depth = sound.depth;
+}
+
+sound_device : (d : Declared) (device : Device) → IsSound d → IsNewDevice d device → IsSound (added d (statement.Device device))
+sound_device d device sound new = record {
+  area_room = sound.area_room;
+  device_room = more_room _ d.devices device new.room;
+  interface_room = sound.interface_room;
+  goal_room = sound.goal_room;
+  area_names = sound.area_names;
+  device_names = distinct_more bytes_eq (λ (device : Device). device.name) d.devices device sound.device_names new.new;
+  interface_names = sound.interface_names;
+  areas = sound.areas;
+  devices = all_more _ d.devices device sound.devices new.formed;
+  interfaces = all_weaker _ _ d.interfaces (interface_stays (length d.devices) (length (d.devices ++ device ∷ [])) (length d.areas) (length d.areas) (longer d.devices device) (omega arith)) sound.interfaces;
+  freed = sound.freed;
+  goals = sound.goals;
+  depth = sound.depth;
+}
+
+slot_stays : (few many slot : ℕ) → few ≤ many → slot < 2 * few → slot < 2 * many
+slot_stays few many slot more within = omega arith
+
+sound_interface : (d : Declared) (i : Interface) → IsSound d → IsNewInterface d i → IsSound (added d (statement.Interface i))
+sound_interface d i sound new = record {
+  area_room = sound.area_room;
+  device_room = sound.device_room;
+  interface_room = more_room _ d.interfaces i new.room;
+  goal_room = sound.goal_room;
+  area_names = sound.area_names;
+  device_names = sound.device_names;
+  interface_names = distinct_more same_place (λ (interface : Interface). (interface.device, interface.name)) d.interfaces i sound.interface_names new.new;
+  areas = sound.areas;
+  devices = sound.devices;
+  interfaces = all_more _ d.interfaces i sound.interfaces new.formed;
+  freed = all_weaker _ _ d.freed (λ slot within. slot_stays (length d.interfaces) (length (d.interfaces ++ i ∷ [])) slot (longer d.interfaces i) within) sound.freed;
+  goals = sound.goals;
+  depth = sound.depth;
+}
+
+sound_slot : (d : Declared) (slot : ℕ) → IsSound d → IsNewSlot d slot → IsSound (added d (statement.Free slot))
+sound_slot d slot sound new = record {
+  area_room = sound.area_room;
+  device_room = sound.device_room;
+  interface_room = sound.interface_room;
+  goal_room = sound.goal_room;
+  area_names = sound.area_names;
+  device_names = sound.device_names;
+  interface_names = sound.interface_names;
+  areas = sound.areas;
+  devices = sound.devices;
+  interfaces = sound.interfaces;
+  freed = all_more _ d.freed slot sound.freed new.within;
+  goals = sound.goals;
+  depth = sound.depth;
+}
+
+sound_goal : (d : Declared) (goal : Goal) → IsSound d → IsNewGoal d goal → IsSound (added d (statement.Goal goal))
+sound_goal d goal sound new = record {
+  area_room = sound.area_room;
+  device_room = sound.device_room;
+  interface_room = sound.interface_room;
+  goal_room = more_room _ d.goals goal new.room;
+  area_names = sound.area_names;
+  device_names = sound.device_names;
+  interface_names = sound.interface_names;
+  areas = sound.areas;
+  devices = sound.devices;
+  interfaces = sound.interfaces;
+  freed = sound.freed;
+  goals = all_more _ d.goals goal sound.goals new.formed;
+  depth = sound.depth;
+}
+
+sound_depth : (d : Declared) (depth : ℕ) → IsSound d → IsNewDepth d depth → IsSound (added d (statement.Depth depth))
+sound_depth d depth sound new = record {
+  area_room = sound.area_room;
+  device_room = sound.device_room;
+  interface_room = sound.interface_room;
+  goal_room = sound.goal_room;
+  area_names = sound.area_names;
+  device_names = sound.device_names;
+  interface_names = sound.interface_names;
+  areas = sound.areas;
+  devices = sound.devices;
+  interfaces = sound.interfaces;
+  freed = sound.freed;
+  goals = sound.goals;
+  depth = (new.shallow, new.deep);
+}
+
+-- what is declared stays sound with a statement that fits
+pub sound_more : (d : Declared) (s : Statement) → IsSound d → Fits d s → IsSound (added d s)
+sound_more d (statement.Depth depth) sound fits = sound_depth d depth sound fits
+sound_more d (statement.Area area) sound fits = sound_area d area sound fits
+sound_more d (statement.Device device) sound fits = sound_device d device sound fits
+sound_more d (statement.Interface interface) sound fits = sound_interface d interface sound fits
+sound_more d (statement.Free slot) sound fits = sound_slot d slot sound fits
+sound_more d (statement.Goal goal) sound fits = sound_goal d goal sound fits

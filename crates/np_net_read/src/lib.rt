@@ -7,6 +7,7 @@ mod draft;
 mod endings;
 mod fault;
 mod line_error;
+mod lines;
 mod names;
 mod reading;
 mod statement;

@@ -1,19 +1,93 @@
 //! A network from its text.
 
-ghost use Rattle.std.specs.Prelude.{◌≡◌, Ok, IfOk, IfErr};
+ghost use Rattle.std.specs.Prelude.{◌≡◌, ◌≤◌, ◌*◌, Ok, IfOk, IfErr, length, map};
 ghost use Rattle.np_net_read.specs.Answers.{IsFaultOf};
+ghost use Rattle.np_net_read.specs.Declaring.{free_flags, network_of, no_rules};
+ghost use Rattle.np_net_read.specs.Drafting.{IsDraft};
 ghost use Rattle.np_net_read.specs.Reading.{net_of};
 
+use crate::draft::Draft;
 use crate::fault::NetError;
-use np_net::Network;
+use crate::lines::read_line;
+use indexmap::IndexSet;
+use np_net::{Interface, Network, Table};
+use np_text::lines;
+use sqlite_items::Items;
 use std::alloc::{AllocError, Global};
 
+/// The depth of a network without a statement of it.
+const DEFAULT_DEPTH: u8 = 8;
+
+/// For each slot of so many interfaces, whether it is free.
+fn free_flags(
+    alloc: Global,
+    freed: &IndexSet<u16>,
+    interfaces: usize,
+) -> Result<Vec<bool>, AllocError>
+    requires { interfaces ≤ 1024 }
+    ensures { IfOk result (λ flags. flags.items ≡ free_flags freed.now.keys (2 * interfaces)) }
+{
+    let mut flags = Vec::new(alloc);
+    for slot in 0..2 * interfaces {
+        flags.push(freed.contains(&(slot as u16)))?;
+    }
+    Ok(flags)
+}
+
+fn no_rules(alloc: Global) -> Table
+    ensures { result ≡ no_rules }
+{
+    Table {
+        pops: Items::new(alloc),
+        ins: Items::new(alloc),
+        outs: Items::new(alloc),
+    }
+}
+
+/// A table without rules for each interface.
+fn empty_tables(alloc: Global, interfaces: &[Interface]) -> Result<Vec<Table>, AllocError>
+    ensures { IfOk result (λ tables. tables.items ≡ map (λ interface. no_rules) interfaces.now) }
+{
+    let mut tables = Vec::new(alloc);
+    for _ in interfaces {
+        tables.push(no_rules(alloc))?;
+    }
+    Ok(tables)
+}
+
+/// The network of what is declared.
+#[tactic(auto, unfolding(crate::specs::Declaring::network_of))]
+fn network(alloc: Global, draft: Draft) -> Result<Network, AllocError>
+    requires { IsDraft draft }
+    ensures { IfOk result (λ net. net ≡ network_of draft.declared) }
+{
+    let declared = draft.declared;
+    let free = free_flags(alloc, &draft.freed, declared.interfaces.len())?;
+    let tables = empty_tables(alloc, declared.interfaces.as_slice())?;
+    Ok(Network {
+        areas: declared.areas,
+        devices: declared.devices,
+        interfaces: declared.interfaces,
+        free: Items::from_vec(free),
+        goals: declared.goals,
+        sas: Items::new(alloc),
+        tables: Items::from_vec(tables),
+        ipgoals: Items::new(alloc),
+        depth: declared.depth.unwrap_or(DEFAULT_DEPTH),
+    })
+}
+
 /// The network that a text declares.
+///
+/// The first faulty line is an error, with its number and its first fault in the order of its words.
+#[tactic(auto, using(crate::proofs::LineReading::net_of_numbered))]
 pub fn read_net(alloc: Global, bytes: &[u8]) -> Result<Network, NetError>
     ensures net { IfOk result (λ net. net_of bytes.now ≡ Ok net) }
     ensures fault { IfErr result (λ error. IsFaultOf (net_of bytes.now) error) }
 {
-    let _ = alloc;
-    let _ = bytes;
-    Err(NetError::Memory(AllocError))
+    let mut draft = Draft::new(alloc);
+    for line in lines(bytes) {
+        read_line(alloc, &mut draft, line.number, line.bytes)?;
+    }
+    Ok(network(alloc, draft)?)
 }

@@ -1,0 +1,115 @@
+//! What a line of a network's text declares.
+
+ghost use Rattle.std.specs.Prelude.{◌≡◌, ◌∷◌, ◌++◌, IfOk, IfErr, IfSome, OnOk, Ok};
+ghost use Rattle.np_net_read.specs.Answers.{Gives, IsFaultOf, texts};
+ghost use Rattle.np_net_read.specs.Drafting.{IsDraft, after_line};
+ghost use Rattle.np_net_read.specs.Fitting.{Fits};
+ghost use Rattle.np_net_read.specs.Judging as judging;
+ghost use Rattle.np_net_read.specs.Words.{AreWords};
+
+use crate::draft::Draft;
+use crate::fault::{NetError, NetFault, NetWhy};
+use crate::line_error::LineError;
+use crate::statement::Statement;
+use crate::statements;
+use crate::tokens::{is_comment, is_text, words_in};
+use np_text::Word;
+use std::alloc::Global;
+
+/// The fault of a first word that begins no statement.
+fn why_no_statement(word: &[u8]) -> NetWhy
+    ensures { result ≡ judging.why_no_statement word.now }
+{
+    if word == b"sa".as_slice()
+        || word == b"pop".as_slice()
+        || word == b"inrule".as_slice()
+        || word == b"outrule".as_slice()
+        || word == b"auth".as_slice()
+        || word == b"conf".as_slice()
+    {
+        NetWhy::NotBuilt
+    } else {
+        NetWhy::UnknownStatement
+    }
+}
+
+/// A statement, by its first word and the others.
+fn statement(
+    alloc: Global,
+    draft: &Draft,
+    word: &[u8],
+    words: &[Word<'_>],
+) -> Result<Statement, LineError>
+    requires draft { IsDraft draft.now }
+    requires words { AreWords (texts words.now) }
+    ensures says { Gives result (judging.statement_says draft.now.declared word.now (texts words.now)) }
+    ensures fits { IfOk result (λ s. Fits draft.now.declared s) }
+{
+    if word == b"depth".as_slice() {
+        return statements::depth(draft, words);
+    }
+    if word == b"area".as_slice() {
+        return statements::area(alloc, draft, words);
+    }
+    if word == b"device".as_slice() {
+        return statements::device(alloc, draft, words);
+    }
+    if word == b"interface".as_slice() {
+        return statements::interface(alloc, draft, words);
+    }
+    if word == b"free".as_slice() {
+        return statements::free(alloc, draft, words);
+    }
+    if word == b"goal".as_slice() {
+        return statements::goal(alloc, draft, words);
+    }
+    Err(LineError::Faulty(why_no_statement(word)))
+}
+
+/// The statement of a line's words. A line without words and a comment have none.
+fn said(alloc: Global, draft: &Draft, words: &[Word<'_>]) -> Result<Option<Statement>, LineError>
+    requires draft { IsDraft draft.now }
+    requires words { AreWords (texts words.now) }
+    ensures says { Gives result (judging.words_say draft.now.declared (texts words.now)) }
+    ensures fits { IfOk result (λ said. IfSome said (λ s. Fits draft.now.declared s)) }
+{
+    let [word, words @ ..] = words else {
+        return Ok(None);
+    };
+    if is_comment(word.bytes) {
+        return Ok(None);
+    }
+    Ok(Some(statement(alloc, draft, word.bytes, words)?))
+}
+
+/// The statement of a line.
+#[tactic(auto, using(crate::proofs::WordLaws::words_of_text), unfolding(crate::specs::Judging::line_says))]
+fn line_says(alloc: Global, draft: &Draft, line: &[u8]) -> Result<Option<Statement>, LineError>
+    requires { IsDraft draft.now }
+    ensures says { Gives result (judging.line_says draft.now.declared line.now) }
+    ensures fits { IfOk result (λ said. IfSome said (λ s. Fits draft.now.declared s)) }
+{
+    if !is_text(line) {
+        return Err(LineError::Faulty(NetWhy::NotText));
+    }
+    let words = words_in(alloc, line)?;
+    said(alloc, draft, words.as_slice())
+}
+
+/// Reads the line of this number: adds what it declares.
+pub fn read_line(alloc: Global, draft: &mut Draft, number: u64, line: &[u8]) -> Result<(), NetError>
+    requires { IsDraft draft.old }
+    ensures after { OnOk result (after_line draft.old.declared number line.now ≡ Ok draft.new.declared) }
+    ensures draft { OnOk result (IsDraft draft.new) }
+    ensures fault { IfErr result (λ error. IsFaultOf (after_line draft.old.declared number line.now) error) }
+{
+    match line_says(alloc, draft, line) {
+        Ok(Some(statement)) => draft.add(alloc, statement)?,
+        Ok(None) => {}
+        Err(LineError::Faulty(why)) => {
+            return Err(NetError::Fault(NetFault { line: number, why }));
+        }
+        Err(LineError::Memory(error)) => return Err(NetError::Memory(error)),
+    }
+    Ok(())
+}

@@ -4,6 +4,7 @@
 mod canonical;
 mod declared;
 mod fault;
+mod laws;
 mod line_error;
 mod names;
 mod reading;
@@ -11,4 +12,5 @@ mod statement;
 
 pub use canonical::put_net;
 pub use fault::{NetError, NetFault, NetWhy};
+pub use laws::{canonical_text_is_words, canonical_text_reads_back};
 pub use reading::read_net;

@@ -4,4 +4,6 @@ pub mod PlainForms
 pub mod ChainLaws
 pub mod PlaceLaws
 pub mod StatementLines
+pub mod FreeLines
+pub mod PlainLines
 pub mod TextBackLaws

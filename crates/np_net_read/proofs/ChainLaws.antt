@@ -5,7 +5,6 @@ use Rattle.np_text.specs.Joined.{is_word, joined_line}
 use Rattle.np_text.specs.Lines.{lines_of}
 use Rattle.np_text.specs.Words.{words_of}
 use Rattle.np_text.proofs.JoinedLaws.{words_of-joined_line, lines_of-joined_text, words_of-joined_text}
-use Rattle.np_net.specs.Plan.{Plan}
 use Rattle.np_net_read.specs.declared.declared.Declared.{Declared}
 use Rattle.np_net_read.specs.declared.statement.Statement.{Statement}
 use Rattle.np_net_read.specs.Canonical.{text_of_lines}

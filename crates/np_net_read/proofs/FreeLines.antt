@@ -1,11 +1,11 @@
 -- The lines of the free slots are read as these slots, and what they free gives the flags back.
-use Rattle.std.proofs.Common.{◌≡◌, ℕ, ◌+◌, ◌*◌, ◌<◌, ◌≤◌, nat_eq, Bool, true, false, ◌||◌, cond, List, [], ◌∷◌, ◌++◌, length, get_or, map, Some, Ok, codes, sym, refl, ap, ◌∙◌, subst, arith, append-nil, append_assoc, length-append, eq-eqb}
+use Rattle.std.proofs.Common.{◌≡◌, ℕ, ◌+◌, ◌*◌, ◌<◌, nat_eq, Bool, true, false, cond, List, [], ◌∷◌, ◌++◌, length, get_or, map, Some, Ok, codes, sym, refl, ap, ◌∙◌, subst, arith, append-nil, append_assoc, length-append, eq-eqb}
 use Rattle.std.specs.List.{AllByRecursion, list_any, position, range_with_len}
 use Rattle.std.proofs.lemmas.Bool.{ne_eqb, or_from}
 use Rattle.std.proofs.lemmas.List.{map-append, length-map}
 use Rattle.std.proofs.lemmas.List.Folds.{list_any-append}
 use Rattle.std.proofs.Math.Seq.{get_or-append_seam}
-use Rattle.np_net.specs.Distinct.{AreDistinct, same_place}
+use Rattle.np_net.specs.Distinct.{same_place}
 use Rattle.np_net.specs.Network.{IsInterface, IsNetwork}
 use Rattle.np_net.specs.Plan.{Plan, interface_names}
 use Rattle.np_net.specs.declared.filtering.Interface.{Interface}
@@ -69,11 +69,10 @@ flag_back front slot free flags h = rw (list_any-append (nat_eq slot) front (fre
 flags_from : (front : List ℕ) (slot : ℕ) (flags : List Bool) → AreBelow slot front → map (λ s. list_any (nat_eq s) (front ++ free_slots slot flags)) (range_with_len slot (length flags)) ≡ flags
 flags_from front slot [] h = refl
 flags_from front slot (free ∷ flags) h =
-    let next : map (λ s. list_any (nat_eq s) (front ++ free_slots slot (free ∷ flags))) (range_with_len (slot + 1) (length flags)) ≡ flags =
-        ap (λ all. map (λ s. list_any (nat_eq s) all) (range_with_len (slot + 1) (length flags))) (sym (append_assoc front (slot_if free slot) (free_slots (slot + 1) flags)))
-        ∙ flags_from (front ++ slot_if free slot) (slot + 1) flags (below_next slot front free h) in
-    ap (λ first. first ∷ map (λ s. list_any (nat_eq s) (front ++ free_slots slot (free ∷ flags))) (range_with_len (slot + 1) (length flags))) (flag_back front slot free flags h)
-    ∙ ap (λ others. free ∷ others) next
+    let all = front ++ free_slots slot (free ∷ flags) in
+    ap (λ first. first ∷ map (λ s. list_any (nat_eq s) all) (range_with_len (slot + 1) (length flags))) (flag_back front slot free flags h)
+    ∙ ap (λ slots. free ∷ map (λ s. list_any (nat_eq s) slots) (range_with_len (slot + 1) (length flags))) (sym (append_assoc front (slot_if free slot) (free_slots (slot + 1) flags)))
+    ∙ ap (λ others. free ∷ others) (flags_from (front ++ slot_if free slot) (slot + 1) flags (below_next slot front free h))
 
 -- the flags of the slots that flags free are these flags
 pub flags_back : (flags : List Bool) (count : ℕ) → length flags ≡ count → free_flags (free_slots 0 flags) count ≡ flags
@@ -88,8 +87,8 @@ module _ (net : Plan) (is : IsNetwork net) where
       let place : ℕ × List ℕ = (interface.device, interface.name) in
       let names : interface_names net.interfaces ≡ interface_names front ++ place ∷ interface_names back = ap interface_names e ∙ map-append (λ (i : Interface). (i.device, i.name)) front (interface ∷ back) in
       let count : length (interface_names front) ≡ length front = length-map front (λ (i : Interface). (i.device, i.name)) in
-      let at : get_or (interface_names net.interfaces) (length front) place ≡ place =
-          ap (λ l. get_or l (length front) place) names ∙ ap (λ n. get_or (interface_names front ++ place ∷ interface_names back) n place) (sym count) ∙ get_or-append_seam (interface_names front) place (interface_names back) place in
+      let seam : get_or (interface_names net.interfaces) (length (interface_names front)) place ≡ place = rw names (get_or-append_seam (interface_names front) place (interface_names back) place) in
+      let at : get_or (interface_names net.interfaces) (length front) place ≡ place = rw (← count) seam in
       let whole : length (interface_names net.interfaces) ≡ length (interface_names front ++ place ∷ interface_names back) = ap length names in
       ap (λ p. position (same_place p) (interface_names net.interfaces)) (sym at)
       ∙ place_found (interface_names net.interfaces) (length front) place is.names.interfaces (omega (arith, length-append (interface_names front) (place ∷ interface_names back)))
@@ -120,8 +119,8 @@ module _ (net : Plan) (is : IsNetwork net) where
       let below1 = below_next slot freed inward below in
       let below2 = below_next (slot + 1) freed1 outward below1 in
       let rest = free_from (front ++ interface ∷ []) interfaces flags (slot + 1 + 1) freed2 (e ∙ sym (append_assoc front (interface ∷ []) interfaces)) formed.1 (omega (arith, length-append front (interface ∷ []))) (omega arith) below2 in
-      let slots : freed2 ++ free_slots (slot + 1 + 1) flags ≡ freed ++ free_slots slot (inward ∷ outward ∷ flags) =
-          append_assoc freed1 (slot_if outward (slot + 1)) (free_slots (slot + 1 + 1) flags) ∙ append_assoc freed (slot_if inward slot) (slot_if outward (slot + 1) ++ free_slots (slot + 1 + 1) flags) in
+      let inner = append_assoc freed1 (slot_if outward (slot + 1)) (free_slots (slot + 1 + 1) flags) in
+      let slots : freed2 ++ free_slots (slot + 1 + 1) flags ≡ freed ++ free_slots slot (inward ∷ outward ∷ flags) = inner ∙ append_assoc freed (slot_if inward slot) (free_slots (slot + 1) (outward ∷ flags)) in
       let line1 = slot_line_read front interfaces interface (codes "in") inward slot freed e device (ap (λ s. Ok s) (sym at)) below in
       let line2 = slot_line_read front interfaces interface (codes "out") outward (slot + 1) freed1 e device (ap (λ s. Ok (s + 1)) (sym at)) below1 in
       then_reads (stage net net.interfaces freed []) (stage net net.interfaces freed1 []) _ (slot_line net interface (codes "in") inward) _ line1

@@ -1,6 +1,7 @@
 -- The lines of a network's filtering part are of plain words.
-use Rattle.std.proofs.Common.{◌≡◌, ℕ, zero, suc, ◌^◌, ◌<◌, ◌≤◌, Bool, true, false, List, [], ◌∷◌, ◌++◌, length, get_or, map, Option, Some, None, IfSome, codes, refl, arith}
+use Rattle.std.proofs.Common.{◌≡◌, ℕ, zero, suc, ◌<◌, ◌≤◌, Bool, true, false, List, [], ◌∷◌, ◌++◌, length, get_or, map, Option, Some, None, IfSome, codes, refl, arith}
 use Rattle.std.specs.List.{AllByRecursion}
+use Rattle.std.specs.Fmt.{decimal}
 use Rattle.np_net.specs.Limits.{depth_limit}
 use Rattle.np_net.specs.Names.{is_file_name}
 use Rattle.np_net.specs.Network.{IsArea, IsDevice, IsInterface, IsGoal, IsNetwork}
@@ -9,7 +10,7 @@ use Rattle.np_net.specs.declared.filtering.Area.{Area}
 use Rattle.np_net.specs.declared.filtering.Device.{Device}
 use Rattle.np_net.specs.declared.filtering.Interface.{Interface}
 use Rattle.np_net.specs.declared.filtering.Goal.{Goal}
-use Rattle.np_net_read.specs.Canonical.{trusted_words, config_words, area_words, device_words, interface_words, place_words, slot_line, free_lines, goal_words, area_name, device_name, only_word, filtering_lines}
+use Rattle.np_net_read.specs.Canonical.{trusted_words, config_words, area_words, device_words, interface_words, slot_line, free_lines, goal_words, area_name, device_name, only_word, filtering_lines}
 use Rattle.np_net_read.proofs.ChainLaws.{ArePlainLines, plain_lines_append}
 use Rattle.np_net_read.proofs.PlainForms.{addresses_plain, decimal_plain, pred_plain}
 use Rattle.np_net_read.proofs.PlainWords.{ArePlain, plain_append, name_plain, interface_name_plain}
@@ -81,11 +82,15 @@ module _ (net : Plan) (is : IsNetwork net) where
 
   -- ---- all lines
 
-  pub filtering_plain : ArePlainLines (filtering_lines net)
-  filtering_plain =
-      let deep : net.depth ≤ depth_limit = is.deep in
-      ((refl, (decimal_plain net.depth (omega arith), tt)),
+  depth_plain : is_file_name (decimal net.depth) ≡ true
+  depth_plain = let deep : net.depth ≤ depth_limit = is.deep in decimal_plain net.depth (omega arith)
+
+  behind_depth_plain : ArePlainLines (map area_words net.areas ++ (map device_words net.devices ++ (map (interface_words net) net.interfaces ++ (free_lines net net.interfaces net.free ++ map (goal_words net) net.goals))))
+  behind_depth_plain =
       plain_lines_append (map area_words net.areas) _ (areas_plain net.areas is.areas)
       (plain_lines_append (map device_words net.devices) _ (devices_plain net.devices is.devices)
       (plain_lines_append (map (interface_words net) net.interfaces) _ (interfaces_plain net.interfaces is.interfaces)
-      (plain_lines_append (free_lines net net.interfaces net.free) (map (goal_words net) net.goals) (free_plain net.interfaces net.free is.interfaces) (goals_plain net.goals is.goals)))))
+      (plain_lines_append (free_lines net net.interfaces net.free) (map (goal_words net) net.goals) (free_plain net.interfaces net.free is.interfaces) (goals_plain net.goals is.goals))))
+
+  pub filtering_plain : ArePlainLines (filtering_lines net)
+  filtering_plain = ((refl, (depth_plain, tt)), behind_depth_plain)

@@ -1,13 +1,12 @@
 -- The canonical words of a depth, an area, a device, an interface and a goal are read as these.
-use Rattle.std.proofs.Common.{◌≡◌, ℕ, ◌+◌, ◌^◌, ◌<◌, ◌≤◌, ◌==◌, Bool, true, false, List, [], ◌∷◌, ◌++◌, length, map, Option, Some, None, Ok, sym, refl, ap, ◌∙◌, subst, arith, append-nil, append_assoc, length-append}
+use Rattle.std.proofs.Common.{◌≡◌, ℕ, ◌+◌, ◌<◌, ◌≤◌, Bool, true, false, List, [], ◌∷◌, ◌++◌, length, map, Option, Some, None, Ok, sym, refl, ap, subst, arith, append-nil, append_assoc, length-append}
 use Rattle.std.specs.List.{AllByRecursion, list_any}
-use Rattle.std.specs.Fmt.{decimal}
 use Rattle.std.specs.Str.{bytes_eq}
 use Rattle.std.proofs.lemmas.Bool.{lt-ltb}
 use Rattle.std.proofs.lemmas.List.{map-append, length-map}
 use Rattle.np_text.proofs.NumberLaws.{number_of-decimal}
 use Rattle.np_pred.proofs.ReadBackLaws.{addresses_of-text, pred_of_words}
-use Rattle.np_net.specs.Distinct.{AreNewAfter, AreDistinct, same_place}
+use Rattle.np_net.specs.Distinct.{AreNewAfter, same_place}
 use Rattle.np_net.specs.Limits.{declaration_limit, interface_limit, depth_limit}
 use Rattle.np_net.specs.Network.{IsArea, IsDevice, IsInterface, IsGoal, IsNetwork}
 use Rattle.np_net.specs.Plan.{Plan, area_names, device_names, interface_names}
@@ -16,14 +15,12 @@ use Rattle.np_net.specs.declared.filtering.Device.{Device}
 use Rattle.np_net.specs.declared.filtering.Interface.{Interface}
 use Rattle.np_net.specs.declared.filtering.Goal.{Goal}
 use Rattle.np_net_read.specs.declared.declared.Declared.{Declared}
-use Rattle.np_net_read.specs.declared.statement.Statement.{Statement}
 use Rattle.np_net_read.specs.declared.statement.Statement.TheVariants as statement
 use Rattle.np_net_read.specs.Canonical.{trusted_words, config_words, depth_words, area_words, device_words, interface_words, goal_words, area_name, device_name, only_word}
 use Rattle.np_net_read.specs.Declaring.{source_list}
 use Rattle.np_net_read.specs.Fitting.{IsNewDepth, IsNewArea, IsNewDevice}
 use Rattle.np_net_read.specs.Judging.{named, only_of, trusted_of, options_of, words_say, depth_says, area_says, device_says, interface_says, goal_says}
-use Rattle.np_net_read.specs.Why.{Judged}
-use Rattle.np_net_read.proofs.ChainLaws.{Lines, ReadsInto}
+use Rattle.np_net_read.proofs.ChainLaws.{ReadsInto}
 use Rattle.np_net_read.proofs.PlaceLaws.{name_found}
 
 -- ---- the depth

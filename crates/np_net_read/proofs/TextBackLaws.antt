@@ -1,5 +1,5 @@
 -- The canonical text of a network that only filters is read as this network.
-use Rattle.std.proofs.Common.{◌≡◌, ℕ, ◌+◌, ◌*◌, ◌≤◌, Bool, List, [], ◌∷◌, ◌++◌, length, map, None, Some, Ok, sym, refl, ap, ◌∙◌, subst, arith}
+use Rattle.std.proofs.Common.{◌≡◌, ℕ, ◌+◌, ◌*◌, ◌≤◌, List, [], ◌∷◌, length, map, Some, Ok, sym, refl, ap, ◌∙◌, subst, arith}
 use Rattle.std.specs.List.{AllByRecursion}
 use Rattle.np_text.specs.Lines.{lines_of}
 use Rattle.np_text.specs.Words.{words_of}
@@ -11,7 +11,7 @@ use Rattle.np_net.specs.declared.associations.Table.{Table}
 use Rattle.np_net_read.specs.declared.declared.Declared.{Declared}
 use Rattle.np_net_read.specs.declared.statement.Statement.TheVariants as statement
 use Rattle.np_net_read.specs.Canonical.{net_lines, net_text, filtering_lines, ipsec_lines, rule_lines, area_words, device_words, interface_words, free_lines, goal_words}
-use Rattle.np_net_read.specs.Declaring.{declared_by, network_of, free_flags, no_rules}
+use Rattle.np_net_read.specs.Declaring.{declared_by, network_of, no_rules}
 use Rattle.np_net_read.specs.Filtering.{HasFilteringAlone}
 use Rattle.np_net_read.specs.Reading.{net_of}
 use Rattle.np_net_read.proofs.ChainLaws.{ArePlainLines, plain_lines_append, ReadsInto, then_reads, net_of_plain, words_of_plain}

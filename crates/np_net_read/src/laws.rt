@@ -20,5 +20,5 @@ pub fn canonical_text_reads_back()
 /// The words of the canonical text's lines are the canonical words.
 #[tactic(auto, using(crate::proofs::TextBackLaws::words_of_text))]
 pub fn canonical_text_is_words()
-    ensures { (net : Plan) → IsNetwork net → HasFilteringAlone net → map words_of (lines_of (net_text net)) ≡ net_lines net }
+    ensures words { (net : Plan) → IsNetwork net → HasFilteringAlone net → map words_of (lines_of (net_text net)) ≡ net_lines net }
 {}

@@ -23,7 +23,7 @@ all_pass p q each (b ∷ bs) h =
     let parts = and_parts (p b) (list_all p bs) h in
     and_from (q b) (list_all q bs) (each b parts.0) (all_pass p q each bs parts.1)
 
-pub plain_parts : (word : List ℕ) → is_file_name word ≡ true → list_all is_file_byte word ≡ true
+plain_parts : (word : List ℕ) → is_file_name word ≡ true → list_all is_file_byte word ≡ true
 plain_parts word h = (and_parts _ _ h).1
 
 -- ---- plain words are words

@@ -1,7 +1,15 @@
+pub mod ChainLaws
 pub mod DeclarationLaws
 pub mod DraftLaws
-pub mod ListLaws
-pub mod SoundLaws
+pub mod FreeLines
 pub mod LineReading
+pub mod ListLaws
 pub mod NetworkLaws
+pub mod PlaceLaws
+pub mod PlainForms
+pub mod PlainLines
+pub mod PlainWords
+pub mod SoundLaws
+pub mod StatementLines
+pub mod TextBackLaws
 pub mod WordLaws

@@ -6,6 +6,7 @@ mod declared;
 mod draft;
 mod endings;
 mod fault;
+mod laws;
 mod line_error;
 mod lines;
 mod names;
@@ -16,4 +17,5 @@ mod tokens;
 
 pub use canonical::put_net;
 pub use fault::{NetError, NetFault, NetWhy};
+pub use laws::{canonical_text_is_words, canonical_text_reads_back};
 pub use reading::read_net;

@@ -93,5 +93,8 @@ pub enum IpGoal {
         pred: Pred,
     },
     /// Confidentiality: no place that isn't trusted sees a packet of the predicate from the area.
-    Conf { from: AreaId, pred: Pred },
+    Conf {
+        from: AreaId,
+        pred: Pred,
+    },
 }

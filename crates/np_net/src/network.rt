@@ -58,26 +58,26 @@ impl Model for Network {
     ghost use Rattle.np_net.specs.Network.{IsNetwork};
 
     ghost view = { λ net. record {
-        areas = net.areas;
-        devices = net.devices;
-        interfaces = net.interfaces;
-        free = net.free;
-        goals = net.goals;
-        sas = net.sas;
-        tables = net.tables;
-        ipgoals = net.ipgoals;
-        depth = net.depth;
+      areas = net.areas;
+      devices = net.devices;
+      interfaces = net.interfaces;
+      free = net.free;
+      goals = net.goals;
+      sas = net.sas;
+      tables = net.tables;
+      ipgoals = net.ipgoals;
+      depth = net.depth;
     } };
 
     ghost invariant = { λ net. IsNetwork record {
-        areas = net.areas;
-        devices = net.devices;
-        interfaces = net.interfaces;
-        free = net.free;
-        goals = net.goals;
-        sas = net.sas;
-        tables = net.tables;
-        ipgoals = net.ipgoals;
-        depth = net.depth;
+      areas = net.areas;
+      devices = net.devices;
+      interfaces = net.interfaces;
+      free = net.free;
+      goals = net.goals;
+      sas = net.sas;
+      tables = net.tables;
+      ipgoals = net.ipgoals;
+      depth = net.depth;
     } };
 }

@@ -19,7 +19,10 @@ fn hop_begins(interfaces: &[Interface], hop: (IfId, IfId), area: AreaId) -> bool
     ensures { IsTrue result ↔ (IsHop interfaces.now hop × (area_of interfaces.now hop.0 ≡ area)) }
 {
     let (inward, outward) = hop;
-    match (interfaces.get(inward as usize), interfaces.get(outward as usize)) {
+    match (
+        interfaces.get(inward as usize),
+        interfaces.get(outward as usize),
+    ) {
         (Some(first), Some(second)) => first.device == second.device && first.area == area,
         _ => false,
     }

@@ -19,3 +19,6 @@ pub use canonical::put_net;
 pub use fault::{NetError, NetFault, NetWhy};
 pub use laws::{canonical_text_is_words, canonical_text_reads_back};
 pub use reading::read_net;
+
+#[cfg(test)]
+mod tests;

@@ -1,2 +1,3 @@
 pub mod DeclarationLaws
 pub mod CanonicalLaws
+pub mod ParallelLaws

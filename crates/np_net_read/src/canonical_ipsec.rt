@@ -203,7 +203,6 @@ fn put_out_rules(
 }
 
 // Appends the lines of the rules of an interface.
-#[tactic(auto, using(crate::proofs::CanonicalLaws::table_text))]
 fn put_table(
     out: &mut Vec<u8>,
     net: &Network,

@@ -58,7 +58,6 @@ pub fn put_place(out: &mut Vec<u8>, net: &Network, interface: &Interface) -> Res
 }
 
 /// Appends the words of a predicate, each behind a space.
-#[tactic(auto, using(crate::proofs::CanonicalLaws::spaced_pred))]
 pub fn put_pred_words(out: &mut Vec<u8>, pred: &Pred) -> Result<(), AllocError>
     requires { IsTrue (has_prefixes pred.now) }
     ensures { OnOk result (out.new.items ≡ out.old.items ++ spaced (pred_words pred.now)) }

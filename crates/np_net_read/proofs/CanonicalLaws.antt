@@ -1,6 +1,7 @@
 -- The canonical text of a network, word by word and line by line, is that of its definition.
-use Rattle.std.proofs.Common.{◌≡◌, ℕ, ◌<◌, Bool, false, List, [], ◌∷◌, ◌++◌, length, get_or, refl, sym, ap, subst, ◌∙◌, append_assoc, arith, zero, suc}
+use Rattle.std.proofs.Common.{◌≡◌, ℕ, ◌<◌, ◌≤◌, Bool, false, List, [], ◌∷◌, ◌++◌, length, get_or, take, refl, sym, ap, subst, ◌∙◌, append_assoc, arith, zero, suc}
 use Rattle.std.specs.List.{flat_map, AllByRecursion}
+use Rattle.std.proofs.lemmas.List.{take_all}
 use Rattle.std.proofs.lemmas.List.Folds.{flat_map-map}
 use Rattle.std.proofs.lemmas.Grind.{flat_map-append}
 use Rattle.np_text.specs.Joined.{joined_line}
@@ -112,3 +113,8 @@ net_text-made net o k l none first second =
     second
     ∙ ap (λ text. text ++ lines_text (canonical.ipsec_lines net)) (first ∙ ap (λ text. text ++ lines_text (canonical.filtering_lines net)) none)
     ∙ sym (net_text-parts net)
+
+-- ---- a loop that has come to the end of its list
+
+pub all_taken : {X : Type 0} (f : X → List ℕ) (xs : List X) (i : ℕ) (start out : List ℕ) → out ≡ start ++ flat_map f (take i xs) → length xs ≤ i → out ≡ start ++ flat_map f xs
+all_taken f xs i start out before past = before ∙ ap (λ ys. start ++ flat_map f ys) (take_all i xs past)

@@ -1,3 +1,4 @@
+pub mod CanonicalLaws
 pub mod ChainLaws
 pub mod DeclarationLaws
 pub mod DraftLaws
@@ -5,6 +6,7 @@ pub mod FreeLines
 pub mod LineReading
 pub mod ListLaws
 pub mod NetworkLaws
+pub mod ParallelLaws
 pub mod PlaceLaws
 pub mod PlainForms
 pub mod PlainLines

@@ -2,6 +2,8 @@
 #![tactic(auto)]
 
 mod canonical;
+mod canonical_ipsec;
+mod canonical_words;
 mod declared;
 mod draft;
 mod endings;

@@ -1,5 +1,5 @@
 -- What holds of every network.
-use Rattle.std.specs.Prelude.{◌≡◌, ℕ, ◌+◌, ◌*◌, ◌<◌, ◌≤◌, Bool, false, true, nat_eq, ◌==◌, List, [], ◌∷◌, length, map, Option, Some, None, IfSome, IsTrue, slice_index_or}
+use Rattle.std.specs.Prelude.{◌≡◌, ℕ, ◌+◌, ◌*◌, ◌<◌, ◌≤◌, false, nat_eq, ◌==◌, List, [], ◌∷◌, length, map, IfSome, IsTrue, slice_index_or}
 use Rattle.std.specs.List.{AllByRecursion, sum}
 use Rattle.std.specs.Str.{bytes_eq}
 use Rattle.np_pred.specs.Forms.{IsWellFormed}

@@ -1,11 +1,10 @@
 -- A statement that fits behind what is declared leaves declarations that make a network.
-use Rattle.std.proofs.Common.{◌≡◌, ℕ, ◌<◌, ◌≤◌, ◌+◌, ◌*◌, Bool, false, List, [], ◌∷◌, ◌++◌, length, map, Option, Some, None, refl, sym, ◌∙◌, ap, arith}
-use Rattle.std.specs.List.{AllByRecursion, list_any}
+use Rattle.std.proofs.Common.{◌≡◌, ℕ, ◌<◌, ◌≤◌, ◌*◌, Bool, false, List, [], ◌∷◌, ◌++◌, length, map, arith}
+use Rattle.std.specs.List.{list_any}
 use Rattle.std.specs.Str.{bytes_eq}
 use Rattle.std.proofs.lemmas.List.{map-append}
-use Rattle.np_net.specs.Distinct.{AreNewAfter, AreDistinct, same_place}
-use Rattle.np_net.specs.Network.{IsArea, IsDevice, IsInterface, IsGoal}
-use Rattle.np_net.specs.Plan.{area_names, device_names, interface_names}
+use Rattle.np_net.specs.Distinct.{AreDistinct, same_place}
+use Rattle.np_net.specs.Network.{IsInterface, IsGoal}
 use Rattle.np_net.specs.declared.filtering.Area.{Area}
 use Rattle.np_net.specs.declared.filtering.Device.{Device}
 use Rattle.np_net.specs.declared.filtering.Interface.{Interface}

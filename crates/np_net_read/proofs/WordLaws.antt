@@ -1,9 +1,9 @@
 -- The words of a line whose bytes may stand in a network's text.
-use Rattle.std.proofs.Common.{◌≡◌, ℕ, ◌<◌, ◌≤◌, Bool, true, false, ◌&&◌, ◌||◌, not, List, [], ◌∷◌, length, inl, inr, refl, ap, ◌∙◌, arith, rules}
-use Rattle.std.specs.List.{AllByRecursion, list_all, onto_first}
+use Rattle.std.proofs.Common.{◌≡◌, ℕ, true, false, List, [], ◌∷◌, length, inl, inr, refl, arith, rules}
+use Rattle.std.specs.List.{list_all, onto_first}
 use Rattle.std.proofs.lemmas.Bool.{cases_Bool, and_from, and_parts, lt-ltb}
 use Rattle.np_text.specs.Words.{is_blank, ends_word, words_of}
-use Rattle.np_net.specs.Names.{is_file_byte, is_file_name}
+use Rattle.np_net.specs.Names.{is_file_byte}
 use Rattle.np_net_read.specs.Judging.{is_text_byte}
 use Rattle.np_net_read.specs.Words.{AreWords}
 

@@ -1,7 +1,6 @@
 -- What the reader's calls answer.
 use Rattle.std.specs.Prelude.{◌≡◌, ℕ, List, Result, Ok, Err, map}
 use Rattle.np_text.specs.declared.cutting.Word.{Word}
-use Rattle.np_net.specs.Plan.{Plan}
 use Rattle.np_net_read.specs.declared.fault.NetError.{NetError}
 use Rattle.np_net_read.specs.declared.fault.NetError.TheVariants as error
 use Rattle.np_net_read.specs.declared.fault.NetFault.{NetFault}

@@ -1,12 +1,10 @@
 -- The canonical text of a network.
-use Rattle.std.specs.Prelude.{◌≡◌, ℕ, ◌+◌, ◌*◌, Bool, true, false, List, [], ◌∷◌, ◌++◌, length, map, Option, Some, None, codes, if◌then◌else◌, slice_index_or}
+use Rattle.std.specs.Prelude.{ℕ, Bool, false, List, [], ◌∷◌, ◌++◌, map, Option, Some, None, codes, if◌then◌else◌, slice_index_or}
 use Rattle.std.specs.Fmt.{decimal}
-use Rattle.std.specs.List.{flat_map}
 use Rattle.np_text.specs.Joined.{joined_text}
 use Rattle.np_pred.specs.Canonical.{pred_words}
 use Rattle.np_pred.specs.Patterns.{addresses_text}
 use Rattle.np_net.specs.Plan.{Plan, area_names, device_names, sa_names}
-use Rattle.np_net.specs.Path.{device_of, interface_at}
 use Rattle.np_net.specs.declared.filtering.Area.{Area}
 use Rattle.np_net.specs.declared.filtering.Device.{Device}
 use Rattle.np_net.specs.declared.filtering.Interface.{Interface}

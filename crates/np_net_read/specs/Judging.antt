@@ -1,5 +1,5 @@
 -- How a line is judged against what the lines before it declare.
-use Rattle.std.specs.Prelude.{◌≡◌, ℕ, ◌+◌, ◌*◌, Bool, true, false, ◌&&◌, ◌||◌, ◌==◌, nat_eq, nat_le, nat_lt, List, [], ◌∷◌, length, Option, Some, None, Result, Ok, Err, codes, if◌then◌else◌, position}
+use Rattle.std.specs.Prelude.{ℕ, ◌+◌, ◌*◌, Bool, true, false, ◌&&◌, ◌||◌, ◌==◌, nat_eq, nat_le, nat_lt, List, [], ◌∷◌, length, Option, Some, None, Result, Ok, Err, codes, if◌then◌else◌, position}
 use Rattle.std.specs.List.{list_all, list_any}
 use Rattle.std.specs.Option.{ok_or}
 use Rattle.std.specs.Str.{bytes_eq}
@@ -15,7 +15,6 @@ use Rattle.np_net.specs.Distinct.{same_place}
 use Rattle.np_net.specs.Limits.{declaration_limit, interface_limit, depth_limit}
 use Rattle.np_net.specs.Names.{is_name, is_interface_name}
 use Rattle.np_net.specs.Plan.{area_names, device_names, interface_names}
-use Rattle.np_net.specs.declared.filtering.Interface.{Interface}
 use Rattle.np_net_read.specs.declared.declared.Declared.{Declared}
 use Rattle.np_net_read.specs.declared.statement.Statement.{Statement}
 use Rattle.np_net_read.specs.declared.statement.Statement.TheVariants as statement

@@ -1,9 +1,8 @@
 -- What a network's text is: a network, or its first faulty line with that line's first fault.
-use Rattle.std.specs.Prelude.{◌≡◌, ℕ, ◌+◌, List, [], ◌∷◌, ◌++◌, Option, Some, None, Result, Ok, Err}
+use Rattle.std.specs.Prelude.{ℕ, ◌+◌, List, [], ◌∷◌, ◌++◌, Option, Some, None, Result, Ok, Err}
 use Rattle.np_text.specs.Lines.{lines_of}
 use Rattle.np_net.specs.Plan.{Plan}
 use Rattle.np_net_read.specs.declared.fault.NetFault.{NetFault}
-use Rattle.np_net_read.specs.declared.fault.NetWhy.{NetWhy}
 use Rattle.np_net_read.specs.declared.statement.Statement.{Statement}
 use Rattle.np_net_read.specs.Declaring.{declared_by, network_of}
 use Rattle.np_net_read.specs.Judging.{line_says}

@@ -1,5 +1,5 @@
 -- How judging goes on from word to word, and ends at the first fault.
-use Rattle.std.specs.Prelude.{◌≡◌, ℕ, Bool, List, [], ◌∷◌, nat_lt, Result, Ok, Err, if◌then◌else◌}
+use Rattle.std.specs.Prelude.{ℕ, List, [], ◌∷◌, nat_lt, Result, Ok, Err, if◌then◌else◌}
 use Rattle.np_net_read.specs.declared.fault.NetWhy.{NetWhy}
 use Rattle.np_net_read.specs.declared.fault.NetWhy.TheVariants.{BadShape, TooMany}
 

@@ -1,4 +1,4 @@
-use Rattle.std.proofs.Common.{◌∙◌, ◌++◌, ◌∷◌, [], ap, sym, rules}
+use Rattle.std.proofs.Common.{rules}
 use Rattle.np_net_read.proofs.NetworkLaws.{flags_more}
 use Rattle.np_net_read.proofs.reading.free_flags.Goals as goal
 

@@ -50,7 +50,7 @@ fn halt_by(alloc: Global, file: &[u8], error: NetError) -> Result<Halt, AllocErr
     }
 }
 
-/// The network that a file declares, in all forms of statements.
+/// The network that a file declares, by the reader of all forms.
 pub fn load_net<S: Shelf>(alloc: Global, shelf: &mut S, file: &[u8]) -> Result<Network, Halt>
     ensures says { (files : Files) → S.files shelf.old ≡ Some files → Loads result (shown.shown_of files file.now) }
 

@@ -258,7 +258,7 @@ fn other_words(rt: HostRuntime) -> Result<(), Fail> {
         &rt,
         rt.alloc(),
         "no command",
-        &["show", "net"],
+        &["trace", "net"],
         &[("net", "")],
         "usage\n",
         2,

@@ -9,3 +9,5 @@ pub use given::{shelf, words};
 mod check;
 #[cfg(test)]
 mod runs;
+#[cfg(test)]
+mod show;

@@ -23,7 +23,27 @@ pub(crate) fn status<R: Threads + Sync>(
     Ok(run(rt, alloc, words.as_slice(), shelf, sink).number())
 }
 
-/// Runs these words over these files, and compares the text and the status.
+/// Runs these words over a shelf, and compares the text and the status.
+pub(crate) fn expect_over<R: Threads + Sync + Abort>(
+    rt: &R,
+    alloc: Global,
+    case: &str,
+    line: &[&str],
+    shelf: &mut MemShelf,
+    text: &[u8],
+    number: u8,
+) -> Result<(), Fail> {
+    let mut sink = MemSink::new(alloc, ROOM)?;
+    assert_eq!(rt;
+        status(rt, alloc, line, shelf, &mut sink)?,
+        number,
+        "the status of {case}"
+    );
+    assert_eq!(rt; sink.bytes(), text, "the text of {case}");
+    Ok(())
+}
+
+/// The same over these files.
 pub(crate) fn expect<R: Threads + Sync + Abort>(
     rt: &R,
     alloc: Global,
@@ -34,12 +54,5 @@ pub(crate) fn expect<R: Threads + Sync + Abort>(
     number: u8,
 ) -> Result<(), Fail> {
     let mut shelf = shelf(alloc, files)?;
-    let mut sink = MemSink::new(alloc, ROOM)?;
-    assert_eq!(rt;
-        status(rt, alloc, line, &mut shelf, &mut sink)?,
-        number,
-        "the status of {case}"
-    );
-    assert_eq!(rt; sink.bytes(), text.as_bytes(), "the text of {case}");
-    Ok(())
+    expect_over(rt, alloc, case, line, &mut shelf, text.as_bytes(), number)
 }

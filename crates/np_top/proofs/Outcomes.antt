@@ -6,12 +6,14 @@ use Rattle.np_outside.specs.Files.{Files}
 use Rattle.np_top.specs.declared.network.Goal.{Goal}
 use Rattle.np_top.specs.declared.network.Network.{Network}
 use Rattle.np_top.specs.declared.config.Config.{Config}
-use Rattle.np_top.specs.declared.load.Inputs.{Inputs}
 use Rattle.np_top.specs.declared.status.Status.{Status}
 use Rattle.np_top.specs.declared.status.Status.TheVariants.{Holds, Fails, Usage, Refused, ReadFault, WriteFault, Memory}
 use Rattle.np_top.specs.Goals.{IsVerdict, AreVerdicts, goal_at}
+use Rattle.np_net.specs.Plan.{Plan}
+use Rattle.np_top.specs.Commands.{Command, check, show, command_of}
 use Rattle.np_top.specs.Report.{IsReport, usage_text, verdicts_text, verdicts_status}
-use Rattle.np_top.specs.Outcome.{command_of, inputs_of, IsAnswer, IsOutcome, IsDefined, IsOneOutcome}
+use Rattle.np_top.specs.Outcome.{inputs_of, IsAnswer, IsAnswerTo, IsReportOn, HasFiles, IsOutcome, IsDefined, IsOneOutcome}
+use Rattle.np_top.specs.Show.{shown_of, IsCanonical}
 use Rattle.np_top.specs.Status.{IsSettled, IsUnlessFault}
 use Rattle.np_top.specs.Written.{Took, TookPrefix}
 
@@ -37,30 +39,44 @@ one_report net configs s t x y a b =
     let same : a.verdicts ≡ b.verdicts = one_verdicts net configs a.verdicts b.verdicts a.right b.right in
     (a.text_is ∙ ap verdicts_text same ∙ sym b.text_is, a.status_is ∙ ap verdicts_status same ∙ sym b.status_is)
 
-one_answer : (inputs : Option (Result Inputs (List ℕ))) (s t : List ℕ) (x y : Status) → IsAnswer inputs s x → IsAnswer inputs t y → Same s x t y
-one_answer None s t x y a b = absurd a
-one_answer (Some (Err refusal)) s t x y a b = (a.0 ∙ sym b.0, a.1 ∙ sym b.1)
-one_answer (Some (Ok inputs)) s t x y a b = one_report inputs.net inputs.configs s t x y a b
+one_canonical : (net : Plan) (s t : List ℕ) (x y : Status) → IsCanonical net s x → IsCanonical net t y → Same s x t y
+one_canonical net s t x y a b = (a.0 ∙ sym b.0, a.1 ∙ sym b.1)
+
+one_answer : {X : Type 0} (Is : X → List ℕ → Status → Type 0) → ((z : X) (s t : List ℕ) (x y : Status) → Is z s x → Is z t y → Same s x t y) →
+    (says : Option (Result X (List ℕ))) (s t : List ℕ) (x y : Status) → IsAnswer Is says s x → IsAnswer Is says t y → Same s x t y
+one_answer Is one None s t x y a b = absurd a
+one_answer Is one (Some (Err refusal)) s t x y a b = (a.0 ∙ sym b.0, a.1 ∙ sym b.1)
+one_answer Is one (Some (Ok z)) s t x y a b = one z s t x y a b
+
+one_answer_to : (files : Files) (command : Command) (s t : List ℕ) (x y : Status) → IsAnswerTo files command s x → IsAnswerTo files command t y → Same s x t y
+one_answer_to files (check file) s t x y a b =
+    one_answer IsReportOn (λ inputs s t x y a b. one_report inputs.net inputs.configs s t x y a b) (inputs_of files file) s t x y a b
+one_answer_to files (show file) s t x y a b = one_answer IsCanonical one_canonical (shown_of files file) s t x y a b
 
 -- two outcomes of the same words and files are the same text and status
 pub one_outcome : (words : List (List ℕ)) (files : Files) (s t : List ℕ) (x y : Status) → IsOutcome words files s x → IsOutcome words files t y → Same s x t y
 one_outcome words files s t x y a b = one_for (command_of words) a b where
-  one_for : (command : Option (List ℕ)) → MatchOption command ((s ≡ usage_text) × (x ≡ Usage)) (λ file. IsAnswer (inputs_of files file) s x) →
-      MatchOption command ((t ≡ usage_text) × (y ≡ Usage)) (λ file. IsAnswer (inputs_of files file) t y) → Same s x t y
+  one_for : (command : Option Command) → MatchOption command ((s ≡ usage_text) × (x ≡ Usage)) (λ command. IsAnswerTo files command s x) →
+      MatchOption command ((t ≡ usage_text) × (y ≡ Usage)) (λ command. IsAnswerTo files command t y) → Same s x t y
   one_for None a b = (a.0 ∙ sym b.0, a.1 ∙ sym b.1)
-  one_for (Some file) a b = one_answer (inputs_of files file) s t x y a b
+  one_for (Some command) a b = one_answer_to files command s t x y a b
 
-defined_by : (inputs : Option (Result Inputs (List ℕ))) (text : List ℕ) (status : Status) → IsAnswer inputs text status → IsSome inputs
-defined_by None text status answer = absurd answer
-defined_by (Some says) text status answer = refl
+defined_by : {X : Type 0} (Is : X → List ℕ → Status → Type 0) (says : Option (Result X (List ℕ))) (text : List ℕ) (status : Status) →
+    IsAnswer Is says text status → IsSome says
+defined_by Is None text status answer = absurd answer
+defined_by Is (Some says) text status answer = refl
+
+has_files : (files : Files) (command : Command) (text : List ℕ) (status : Status) → IsAnswerTo files command text status → HasFiles files command
+has_files files (check file) text status answer = defined_by IsReportOn (inputs_of files file) text status answer
+has_files files (show file) text status answer = defined_by IsCanonical (shown_of files file) text status answer
 
 -- an outcome needs its files
 pub outcome_defined : (words : List (List ℕ)) (files : Files) (text : List ℕ) (status : Status) → IsOutcome words files text status → IsDefined words files
 outcome_defined words files text status outcome = defined_for (command_of words) outcome where
-  defined_for : (command : Option (List ℕ)) → MatchOption command ((text ≡ usage_text) × (status ≡ Usage)) (λ file. IsAnswer (inputs_of files file) text status) →
-      MatchOption command (Unit {0}) (λ file. IsSome (inputs_of files file))
+  defined_for : (command : Option Command) → MatchOption command ((text ≡ usage_text) × (status ≡ Usage)) (λ command. IsAnswerTo files command text status) →
+      MatchOption command (Unit {0}) (λ command. HasFiles files command)
   defined_for None outcome = tt
-  defined_for (Some file) outcome = defined_by (inputs_of files file) text status outcome
+  defined_for (Some command) outcome = has_files files command text status outcome
 
 pub is_one_outcome : IsOneOutcome
 is_one_outcome = record {
@@ -73,10 +89,10 @@ is_one_outcome = record {
 pub usage_outcome : (words : List (List ℕ)) (files : Files) → None ≡ command_of words → IsOutcome words files usage_text Usage
 usage_outcome words files fits = rw (← fits) (refl, refl)
 
--- the outcome of `check`
-pub check_outcome : (words : List (List ℕ)) (files : Files) (file text : List ℕ) (status : Status) → Some file ≡ command_of words →
-    IsAnswer (inputs_of files file) text status → IsOutcome words files text status
-check_outcome words files file text status fits answer = rw (← fits) answer
+-- the outcome of a command
+pub answer_outcome : (words : List (List ℕ)) (files : Files) (command : Command) (text : List ℕ) (status : Status) → Some command ≡ command_of words →
+    IsAnswerTo files command text status → IsOutcome words files text status
+answer_outcome words files command text status fits answer = rw (← fits) answer
 
 -- a status is its own, unless a device or memory fails
 pub is_unless_fault : (status : Status) → IsUnlessFault status status

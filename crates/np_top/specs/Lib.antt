@@ -14,6 +14,9 @@ pub mod Filter
 pub mod Goals
 pub mod Judged
 pub mod Report
+pub mod Saying
+pub mod Show
+pub mod Commands
 pub mod Outcome
 pub mod Status
 pub mod Loading

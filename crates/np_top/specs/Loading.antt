@@ -4,7 +4,10 @@ use Rattle.np_top.specs.declared.load.Halt.{Halt}
 use Rattle.np_top.specs.declared.load.Halt.TheVariants as halts
 use Rattle.np_top.specs.declared.reader_error.ReaderError.{ReaderError}
 use Rattle.np_top.specs.declared.reader_error.ReaderError.TheVariants as errors
-use Rattle.np_top.specs.Report.{refused_text}
+use Rattle.np_net_read.specs.declared.fault.NetError.{NetError}
+use Rattle.np_net_read.specs.declared.fault.NetError.TheVariants as unread
+use Rattle.np_top.specs.Report.{not_built_text}
+use Rattle.np_top.specs.Show.{fault_text}
 
 -- what was loaded is what is said, and a refusal is the one that is said; a fault and want of memory say nothing
 abbrev pub Loads : {X : Type 0} → Result X Halt → Option (Result X (List ℕ)) → Type 0
@@ -15,5 +18,10 @@ Loads (Err halts.Memory) says = Unit {0}
 
 -- a text that isn't read halts the run: with the line that refuses it, or for want of memory
 abbrev pub HaltsBy : List ℕ → ReaderError → Halt → Type 0
-HaltsBy file (errors.Refused number) halt = halt ≡ halts.Refused (refused_text file number)
+HaltsBy file (errors.Refused number) halt = halt ≡ halts.Refused (not_built_text file number)
 HaltsBy file errors.Memory halt = halt ≡ halts.Memory
+
+-- the same for a text that is no network's
+abbrev pub HaltsByFault : List ℕ → NetError → Halt → Type 0
+HaltsByFault file (unread.Fault fault) halt = halt ≡ halts.Refused (fault_text file fault)
+HaltsByFault file (unread.Memory e) halt = halt ≡ halts.Memory

@@ -20,9 +20,13 @@ usage_text = line (codes "usage")
 abbrev pub too_long_text : List ℕ → List ℕ
 too_long_text file = line (codes "refused " ++ file ++ codes " too-long")
 
--- what is written for a file whose line of this number is the first that is refused
-abbrev pub refused_text : List ℕ → ℕ → List ℕ
-refused_text file number = line (codes "refused " ++ file ++ codes " line " ++ decimal number ++ codes " NotBuilt")
+-- what is written for a file whose line of this number is the first that is refused, for this reason
+abbrev pub refused_text : List ℕ → ℕ → List ℕ → List ℕ
+refused_text file number why = line (codes "refused " ++ file ++ codes " line " ++ decimal number ++ codes " " ++ why)
+
+-- the same where the line has none of the forms that are read so far
+abbrev pub not_built_text : List ℕ → ℕ → List ℕ
+not_built_text file number = refused_text file number (codes "NotBuilt")
 
 -- a goal's line; goals count from 1
 abbrev pub goal_text : ℕ → Bool → List ℕ

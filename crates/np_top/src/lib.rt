@@ -1,6 +1,8 @@
 //! The program's commands.
 #![tactic(auto)]
 
+mod answers;
+mod commands;
 mod config;
 mod config_text;
 mod entries;
@@ -15,6 +17,7 @@ mod protocol_entry;
 mod reach;
 mod reader_error;
 mod report;
+mod show;
 mod statements;
 mod status;
 mod tokens;

@@ -11,8 +11,9 @@ ghost use Rattle.np_top.specs.Limits.{file_limit};
 ghost use Rattle.np_top.specs.Lists.{ListsTestProtocols};
 ghost use Rattle.np_top.specs.Loading.{Loads, HaltsBy};
 ghost use Rattle.np_top.specs.NetText.{net_of};
-ghost use Rattle.np_top.specs.Outcome.{file_says, device_says, configs_say, inputs_of};
-ghost use Rattle.np_top.specs.Report.{too_long_text};
+ghost use Rattle.np_top.specs.Outcome.{device_says, configs_say, inputs_of};
+ghost use Rattle.np_top.specs.Report.{too_long_text, not_built_text};
+ghost use Rattle.np_top.specs.Saying.{file_says};
 ghost use Rattle.np_top.specs.InRange.{IsInRange};
 
 use crate::config::Config;
@@ -50,7 +51,7 @@ impl From<AllocError> for Halt {
 }
 
 /// The bytes of a file that isn't too long.
-fn load_bytes<S: Shelf>(alloc: Global, shelf: &mut S, file: &[u8]) -> Result<Vec<u8>, Halt>
+pub fn load_bytes<S: Shelf>(alloc: Global, shelf: &mut S, file: &[u8]) -> Result<Vec<u8>, Halt>
     ensures ok { IfOk result (λ bytes. (files : Files) → S.files shelf.old ≡ Some files → get files file.now ≡ Some bytes.items) }
     ensures within { IfOk result (λ bytes. vec_len bytes ≤ file_limit) }
     ensures refused { (text : List ℕ) → IsErrOf result (Halt.Refused text) → (files : Files) → S.files shelf.old ≡ Some files →
@@ -77,19 +78,19 @@ fn halt_by(alloc: Global, file: &[u8], error: ReaderError) -> Result<Halt, Alloc
     ensures { IfOk result (λ halt. HaltsBy file.now error halt) }
 {
     match error {
-        ReaderError::Refused(line) => Ok(Halt::Refused(refused(alloc, file, line)?)),
+        ReaderError::Refused(line) => Ok(Halt::Refused(refused(alloc, file, line, b"NotBuilt")?)),
         ReaderError::Memory => Ok(Halt::Memory),
     }
 }
 
 /// The network that a file declares.
 fn load_network<S: Shelf>(alloc: Global, shelf: &mut S, file: &[u8]) -> Result<Network, Halt>
-    ensures says { (files : Files) → S.files shelf.old ≡ Some files → Loads result (file_says net_of files file.now) }
+    ensures says { (files : Files) → S.files shelf.old ≡ Some files → Loads result (file_says not_built_text net_of files file.now) }
     ensures in_range { IfOk result (λ net. IsInRange net) }
 
     ensures failed { IsErrOf result Halt.ReadFault → Rose (S.faults shelf.old) (S.faults shelf.new) }
     ensures broken { IsErrOf result Halt.ReadFault → (files : Files) → S.files shelf.old ≡ Some files →
-        IsSome (file_says net_of files file.now) → Rose (S.breaks shelf.old) (S.breaks shelf.new) }
+        IsSome (file_says not_built_text net_of files file.now) → Rose (S.breaks shelf.old) (S.breaks shelf.new) }
     ensures files { S.files shelf.new ≡ S.files shelf.old }
     ensures cap { S.cap shelf.new ≡ S.cap shelf.old }
     ensures grows { S.faults shelf.old ≤ S.faults shelf.new }
@@ -104,12 +105,12 @@ fn load_network<S: Shelf>(alloc: Global, shelf: &mut S, file: &[u8]) -> Result<N
 
 /// The configuration that a file holds.
 fn load_file<S: Shelf>(alloc: Global, shelf: &mut S, file: &[u8]) -> Result<Config, Halt>
-    ensures says { (files : Files) → S.files shelf.old ≡ Some files → Loads result (file_says config_of files file.now) }
+    ensures says { (files : Files) → S.files shelf.old ≡ Some files → Loads result (file_says not_built_text config_of files file.now) }
     ensures protocols { IfOk result (λ config. ListsTestProtocols config.lists) }
 
     ensures failed { IsErrOf result Halt.ReadFault → Rose (S.faults shelf.old) (S.faults shelf.new) }
     ensures broken { IsErrOf result Halt.ReadFault → (files : Files) → S.files shelf.old ≡ Some files →
-        IsSome (file_says config_of files file.now) → Rose (S.breaks shelf.old) (S.breaks shelf.new) }
+        IsSome (file_says not_built_text config_of files file.now) → Rose (S.breaks shelf.old) (S.breaks shelf.new) }
     ensures files { S.files shelf.new ≡ S.files shelf.old }
     ensures cap { S.cap shelf.new ≡ S.cap shelf.old }
     ensures grows { S.faults shelf.old ≤ S.faults shelf.new }

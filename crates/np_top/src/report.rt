@@ -27,15 +27,17 @@ pub fn too_long(alloc: Global, file: &[u8]) -> Result<Items<u8>, AllocError>
 }
 
 /// The refusal of a file for its line of this number.
-pub fn refused(alloc: Global, file: &[u8], line: u64) -> Result<Items<u8>, AllocError>
-    ensures { IfOk result (λ text. text ≡ written.refused_text file.now line) }
+pub fn refused(alloc: Global, file: &[u8], line: u64, why: &[u8]) -> Result<Items<u8>, AllocError>
+    ensures { IfOk result (λ text. text ≡ written.refused_text file.now line why.now) }
 {
     let mut text = Vec::new(alloc);
     text.extend_from_slice(b"refused ")?;
     text.extend_from_slice(file)?;
     text.extend_from_slice(b" line ")?;
     put_number(&mut text, line)?;
-    text.extend_from_slice(b" NotBuilt\n")?;
+    text.extend_from_slice(b" ")?;
+    text.extend_from_slice(why)?;
+    text.extend_from_slice(b"\n")?;
     Ok(Items::from_vec(text))
 }
 

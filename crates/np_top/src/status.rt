@@ -3,7 +3,7 @@
 /// How a run ended. Its number is the program's exit status.
 #[derive(Clone, Copy, Debug, PartialEq, Eq)]
 pub enum Status {
-    /// 0: the report is written, and all goals hold.
+    /// 0: the report is written, and all goals hold; or the canonical text of a network is written.
     Holds,
 
     /// 1: the report is written, and a goal is violated.

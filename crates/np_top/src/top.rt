@@ -1,77 +1,20 @@
 //! A whole run, from its words to the bytes that it writes.
 
-ghost use Rattle.std.specs.Prelude.{◌≡◌, ◌≢◌, ◌≤◌, ◌<◌, ◌⊎◌, ◌++◌, ℕ, List, Some, None, IfOk, IsErrOf, IsSome, IsNone, length, take};
-ghost use Rattle.std.specs.Option.{option_copied};
+ghost use Rattle.std.specs.Prelude.{◌≡◌, ◌≤◌, ◌⊎◌, ℕ, List, Some, IsSome, IsNone};
 ghost use Rattle.np_outside.specs.Counts.{Rose};
 ghost use Rattle.np_outside.specs.Files.{Files};
-ghost use Rattle.np_top.specs.declared.top.Fault.TheVariants as faults;
-ghost use Rattle.np_top.specs.Outcome.{command_of, texts_of, inputs_of, IsAnswer, IsOutcome, IsDefined};
-ghost use Rattle.np_top.specs.Report.{usage_text, IsReport};
+ghost use Rattle.np_top.specs.Commands.{command_of};
+ghost use Rattle.np_top.specs.Outcome.{texts_of, IsOutcome, IsDefined};
+ghost use Rattle.np_top.specs.Report.{usage_text};
 ghost use Rattle.np_top.specs.Status.{IsSettled, IsUnlessFault};
 ghost use Rattle.np_top.specs.Written.{Took, TookPrefix};
 
-use crate::judge::judge;
-use crate::load::{Halt, load};
-use crate::report::{Answer, report};
+use crate::answers::{Fault, answer};
+use crate::commands::parse;
 use crate::status::Status;
 use np_outside::{Shelf, Sink, write_all};
-use std::alloc::{AllocError, Global};
+use std::alloc::Global;
 use std::thread::Threads;
-
-/// The network's file, where the words are `check` and a file's name.
-fn command(words: &[String]) -> Option<&[u8]>
-    ensures { option_copied result ≡ command_of (texts_of words.now) }
-{
-    match words {
-        [word, file] if word.as_str() == "check" => Some(file.as_bytes()),
-        _ => None,
-    }
-}
-
-/// Why nothing is written.
-#[derive(Clone, Copy)]
-enum Fault {
-    /// A file could not be read.
-    Read,
-
-    /// There was no memory.
-    Memory,
-}
-
-impl From<AllocError> for Fault {
-    ghost from_gives = { λ _ e. e ≡ faults.Memory };
-
-    fn from(_e: AllocError) -> Fault {
-        Fault::Memory
-    }
-}
-
-/// The answer to `check`: the report, or the line that refuses a file.
-fn check<S: Shelf>(alloc: Global, shelf: &mut S, file: &[u8]) -> Result<Answer, Fault>
-    ensures ok { IfOk result (λ answer. (files : Files) → S.files shelf.old ≡ Some files → IsAnswer (inputs_of files file.now) answer.text answer.status) }
-    ensures settled { IfOk result (λ answer. IsSettled answer.status × (answer.status ≢ Status.Usage)) }
-
-    ensures failed { IsErrOf result Fault.Read → Rose (S.faults shelf.old) (S.faults shelf.new) }
-    ensures broken { IsErrOf result Fault.Read → (files : Files) → S.files shelf.old ≡ Some files →
-        IsSome (inputs_of files file.now) → Rose (S.breaks shelf.old) (S.breaks shelf.new) }
-    ensures files { S.files shelf.new ≡ S.files shelf.old }
-    ensures cap { S.cap shelf.new ≡ S.cap shelf.old }
-    ensures grows { S.faults shelf.old ≤ S.faults shelf.new }
-    ensures breaks_grow { S.breaks shelf.old ≤ S.breaks shelf.new }
-{
-    match load(alloc, shelf, file) {
-        Ok(inputs) => {
-            let verdicts = judge(alloc, &inputs.net, inputs.configs.as_slice())?;
-            Ok(report(alloc, verdicts.as_slice())?)
-        }
-        Err(Halt::Refused(text)) => Ok(Answer {
-            text,
-            status: Status::Refused,
-        }),
-        Err(Halt::ReadFault) => Err(Fault::Read),
-        Err(Halt::Memory) => Err(Fault::Memory),
-    }
-}
 
 /// Writes a text, and answers the status that goes with it.
 fn write<K: Sink>(sink: &mut K, text: &[u8], status: Status) -> Status
@@ -90,8 +33,8 @@ fn write<K: Sink>(sink: &mut K, text: &[u8], status: Status) -> Status
 /// Runs the command that the words name, without the program's name, over the files of the shelf, and writes its text
 /// to the sink.
 ///
-/// The command is `check NET`: it reads the file NET and then the configuration of each of its devices, and writes a
-/// verdict on each goal.
+/// `check NET` reads the file NET and then the configuration of each of its devices, and writes a verdict on each goal.
+/// `show NET` reads the file NET, and writes the canonical text of the network that it declares.
 pub fn run<R: Threads + Sync, S: Shelf, K: Sink>(
     rt: &R,
     alloc: Global,
@@ -140,10 +83,10 @@ pub fn run<R: Threads + Sync, S: Shelf, K: Sink>(
     ensures faults_grow { K.faults sink.old ≤ K.faults sink.new }
 {
     let _ = rt;
-    let Some(file) = command(words) else {
+    let Some(command) = parse(words) else {
         return write(sink, b"usage\n", Status::Usage);
     };
-    match check(alloc, shelf, file) {
+    match answer(alloc, shelf, command) {
         Ok(answer) => write(sink, answer.text.as_slice(), answer.status),
         Err(Fault::Read) => Status::ReadFault,
         Err(Fault::Memory) => Status::Memory,

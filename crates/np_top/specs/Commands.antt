@@ -1,0 +1,28 @@
+-- The commands, and which words are one.
+use Rattle.std.specs.Prelude.{ℕ, List, [], ◌∷◌, Option, Some, None, codes, if◌then◌else◌}
+use Rattle.std.specs.Str.{bytes_eq}
+use Rattle.np_top.specs.declared.commands.Command as declared
+use Rattle.np_top.specs.declared.commands.Command.TheVariants as variants
+
+-- a command, with the name of the network's file
+pub data Command : Type 0 where
+  check : List ℕ → Command
+  show : List ℕ → Command
+
+-- a command as the program holds it
+abbrev pub command_in : declared.Command → Command
+command_in (variants.Check file) = check file.now
+command_in (variants.Show file) = show file.now
+
+-- the command of these two words
+abbrev pub command_on : List ℕ → List ℕ → Option Command
+command_on word file =
+    if bytes_eq word (codes "check") then Some (check file) else
+    (if bytes_eq word (codes "show") then Some (show file) else None)
+
+-- the command that the words are, and nothing where they fit no command
+abbrev pub command_of : List (List ℕ) → Option Command
+command_of [] = None
+command_of (word ∷ []) = None
+command_of (word ∷ file ∷ []) = command_on word file
+command_of (word ∷ file ∷ more ∷ rest) = None

@@ -13,13 +13,15 @@ combine f (x ∷ xs) (y ∷ ys) = f x y ∷ combine f xs ys
 combine f (x ∷ xs) [] = []
 combine f [] ys = []
 
--- what is in one of the sets, in both, and in the first alone
+-- what is in one of the sets, or in both
 abbrev pub joined : List Bool → List Bool → List Bool
 joined xs ys = combine (λ x y. x || y) xs ys
 
+-- what is in both
 abbrev pub met : List Bool → List Bool → List Bool
 met xs ys = combine (λ x y. x && y) xs ys
 
+-- what is in the first alone
 abbrev pub without : List Bool → List Bool → List Bool
 without xs ys = combine (λ x y. x && not y) xs ys
 

@@ -6,6 +6,7 @@ use Rattle.np_outside.specs.Files.{Files}
 use Rattle.np_outside.specs.declared.mem_shelf.NamedFile.{NamedFile}
 use Rattle.np_outside.specs.declared.mem_shelf.Place.{Place}
 
+-- a file, as its name and its bytes
 abbrev pub entry : NamedFile → List ℕ × List ℕ
 entry f = (f.name.items, f.bytes.items)
 

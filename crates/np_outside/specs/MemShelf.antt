@@ -19,6 +19,7 @@ pub record ShelfState : Type 0 where
   pub faults : ℕ
   pub breaks : ℕ
 
+-- the state of a shelf
 abbrev pub state : MemShelf → ShelfState
 state s = record {
   files = files_of s.files.items;

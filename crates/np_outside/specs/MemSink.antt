@@ -13,6 +13,7 @@ pub record SinkState : Type 0 where
   pub named : List ℕ
   pub faults : ℕ
 
+-- the state of a sink
 abbrev pub state : MemSink → SinkState
 state s = record {
   bytes = s.bytes.items;

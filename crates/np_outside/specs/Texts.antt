@@ -3,6 +3,7 @@ use Rattle.std.specs.Prelude.{ℕ, List, codes}
 use Rattle.np_outside.specs.declared.shelf.ReadError.{ReadError}
 use Rattle.np_outside.specs.declared.shelf.ReadError.TheVariants.{Failed, TooLong, Memory}
 
+-- the text of a cause
 abbrev pub text_of : ReadError → List ℕ
 text_of Failed = codes "the device failed"
 text_of TooLong = codes "the file is too long"

@@ -24,10 +24,12 @@ block_has b h = fields_have b.src b.dst b.proto b.a b.b b.est h
 
 -- ---- a block with one field changed
 
+-- the pattern of an address field
 abbrev pub address_of : AddressField → Block → Ternary
 address_of Src b = b.src
 address_of Dst b = b.dst
 
+-- the span of a field of numbers
 abbrev pub span_of : SpanField → Block → Span
 span_of Proto b = b.proto
 span_of A b = b.a

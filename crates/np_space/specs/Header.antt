@@ -21,6 +21,7 @@ numbers_fit proto a b =
 unfoldable pub is_valid_header : Header → Bool
 is_valid_header h = has_widths h && (h.proto == 6 || not h.est) && numbers_fit h.proto h.a h.b
 
+-- the same as a statement
 abbrev pub IsValid : Header → Type 0
 IsValid h = IsTrue (is_valid_header h)
 

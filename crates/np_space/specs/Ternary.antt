@@ -17,6 +17,7 @@ agrees_below value wild x (suc n) = agrees_at value wild x n && agrees_below val
 unfoldable pub pattern_has : ℕ → ℕ → ℕ → Bool
 pattern_has value wild x = nat_lt x (2 ^ 32) && agrees_below value wild x 32
 
+-- the pattern has the number x
 abbrev pub ternary_has : Ternary → ℕ → Bool
 ternary_has p x = pattern_has p.value p.wild x
 

@@ -1,7 +1,6 @@
 -- Words and the names that they may be.
-use Rattle.std.specs.Prelude.{ℕ, Bool, true, false, ◌&&◌, ◌||◌, not, ◌==◌, nat_le, List, [], ◌∷◌, length, Option, Some, None, is_some, codes, if◌then◌else◌, map}
+use Rattle.std.specs.Prelude.{ℕ, Bool, true, ◌&&◌, ◌||◌, ◌==◌, nat_le, List, [], ◌∷◌, Option, Some, None, is_some, codes, if◌then◌else◌, map}
 use Rattle.std.specs.List.{list_all, slice_split}
-use Rattle.std.specs.Char.{is_ascii_alphabetic, is_ascii_digit}
 use Rattle.std.specs.Str.{bytes_eq}
 use Rattle.std.specs.Option.{option_map}
 use Rattle.std.specs.Borrow.{Bor}
@@ -17,27 +16,6 @@ texts words = map (λ word. word.now) words
 -- a byte of a network's text: a printable character, a tab or a carriage return
 abbrev pub is_text_byte : ℕ → Bool
 is_text_byte b = (nat_le 32 b && nat_le b 126) || b == 9 || b == 13
-
--- a letter, a digit, or one of `-`, `_` and `.`
-abbrev pub is_name_byte : ℕ → Bool
-is_name_byte b = is_ascii_alphabetic b || is_ascii_digit b || b == 45 || b == 95 || b == 46
-
--- a byte of a name, or one of `/` and `:`
-abbrev pub is_interface_byte : ℕ → Bool
-is_interface_byte b = is_name_byte b || b == 47 || b == 58
-
--- a letter, and then these bytes, 64 at most in all
-abbrev pub is_named_by : (ℕ → Bool) → List ℕ → Bool
-is_named_by may [] = false
-is_named_by may (b ∷ bs) = is_ascii_alphabetic b && list_all may bs && nat_le (length (b ∷ bs)) 64
-
--- the name of an area or a device
-abbrev pub is_name : List ℕ → Bool
-is_name word = is_named_by is_name_byte word && not (bytes_eq word (codes "none"))
-
--- the name of an interface
-abbrev pub is_interface_name : List ℕ → Bool
-is_interface_name word = is_named_by is_interface_byte word
 
 -- `none`, or prefixes joined by commas
 abbrev pub are_addresses : List ℕ → Bool

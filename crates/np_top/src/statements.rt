@@ -4,14 +4,16 @@ ghost use Rattle.std.specs.Prelude.{◌≡◌, ◌<◌, ◌≤◌, ◌&&◌, [],
 ghost use Rattle.std.specs.Bool.{OnTrue};
 ghost use Rattle.std.specs.Option.{option_copied, option_map};
 ghost use Rattle.std.specs.Str.{bytes_eq};
+ghost use Rattle.np_net.specs.Names.{is_name};
 ghost use Rattle.np_top.specs.Limits.{declaration_limit, interface_limit};
 ghost use Rattle.np_top.specs.NetText as net_text;
 ghost use Rattle.np_top.specs.NewItems.{declared_device, declared_interface};
 ghost use Rattle.np_top.specs.declared.network.Device.{Device};
-ghost use Rattle.np_top.specs.Tokens.{texts, is_name};
+ghost use Rattle.np_top.specs.Tokens.{texts};
 
 use crate::network::{Device, Goal, Name, Network};
-use crate::tokens::{are_addresses, is_interface_name, is_name, predicate};
+use crate::tokens::{are_addresses, predicate};
+use np_net::{is_interface_name, is_name};
 
 /// Areas, devices and goals, each, at most.
 const DECLARATION_LIMIT: usize = 256;

@@ -11,9 +11,6 @@ ghost use Rattle.np_top.specs.Tokens as tokens;
 use crate::network::Protocols;
 use np_text::{number, prefix};
 
-/// The bytes of a name, at most.
-const NAME_LIMIT: usize = 64;
-
 fn is_text_byte(byte: u8) -> bool
     ensures { result ≡ tokens.is_text_byte byte }
 {
@@ -25,61 +22,6 @@ pub fn is_text(line: &[u8]) -> bool
     ensures { result ≡ list_all tokens.is_text_byte line.now }
 {
     line.iter().all(|byte| is_text_byte(*byte))
-}
-
-fn is_name_byte(byte: u8) -> bool
-    ensures { result ≡ tokens.is_name_byte byte }
-{
-    byte.is_ascii_alphabetic()
-        || byte.is_ascii_digit()
-        || byte == b'-'
-        || byte == b'_'
-        || byte == b'.'
-}
-
-fn is_interface_byte(byte: u8) -> bool
-    ensures { result ≡ tokens.is_interface_byte byte }
-{
-    is_name_byte(byte) || byte == b'/' || byte == b':'
-}
-
-fn are_name_bytes(bytes: &[u8]) -> bool
-    ensures { result ≡ list_all tokens.is_name_byte bytes.now }
-{
-    bytes.iter().all(|byte| is_name_byte(*byte))
-}
-
-fn are_interface_bytes(bytes: &[u8]) -> bool
-    ensures { result ≡ list_all tokens.is_interface_byte bytes.now }
-{
-    bytes.iter().all(|byte| is_interface_byte(*byte))
-}
-
-/// Whether a word may name an interface.
-pub fn is_interface_name(word: &[u8]) -> bool
-    ensures { result ≡ tokens.is_interface_name word.now }
-{
-    let [first, rest @ ..] = word else {
-        return false;
-    };
-    first.is_ascii_alphabetic() && are_interface_bytes(rest) && word.len() <= NAME_LIMIT
-}
-
-/// Whether a word has the form of a name.
-fn is_named(word: &[u8]) -> bool
-    ensures { result ≡ tokens.is_named_by tokens.is_name_byte word.now }
-{
-    let [first, rest @ ..] = word else {
-        return false;
-    };
-    first.is_ascii_alphabetic() && are_name_bytes(rest) && word.len() <= NAME_LIMIT
-}
-
-/// Whether a word may name an area or a device.
-pub fn is_name(word: &[u8]) -> bool
-    ensures { result ≡ tokens.is_name word.now }
-{
-    is_named(word) && word != b"none".as_slice()
 }
 
 /// Whether a word is prefixes joined by commas.

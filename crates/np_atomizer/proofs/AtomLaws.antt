@@ -1,0 +1,250 @@
+-- What is read of the classes, and the order of the atoms.
+use Rattle.std.proofs.Common.{◌≡◌, ℕ, suc, zero, ◌+◌, ◌<◌, ◌≤◌, Bool, true, false, List, [], ◌∷◌, ◌++◌, length, get_or, map, refl, sym, ◌∙◌, ap, subst, arith, append_assoc}
+use Rattle.std.specs.Prelude.{IsTrue}
+use Rattle.std.specs.List.{All, AllPairs, Any, Contains}
+use Rattle.std.specs.List.Sorted.{IsPermutation, IsSortedBy, IsStrictlySortedBy}
+use Rattle.std.specs.Ordering.{is_lt}
+use Rattle.std.specs.declared.cmp.Ordering.TheVariants.{Less}
+use Rattle.std.proofs.Math.ListN.{get_or-map}
+use Rattle.std.proofs.lemmas.Bool.{true≢false}
+use Rattle.std.proofs.lemmas.List.{map-append, length-map, get_or-map as get_or_inside}
+use Rattle.std.proofs.lemmas.List.Elements.{All-nil, All-head, All-tail, All-push, All-map, All-weaker, All-get_or, recursion_from_All}
+use Rattle.std.proofs.lemmas.List.Sorted.{All-permutation, IsPermutation-map, sum_by-IsPermutation, sorted_far, ranks_by}
+use Rattle.np_space.specs.Flag.{flag_number}
+use Rattle.np_space.specs.Header.{is_valid_header, IsValid, IsLeast, header_order}
+use Rattle.np_space.specs.declared.headers.Header.{Header}
+use Rattle.np_space.proofs.FlagLemmas.{flag_small}
+use Rattle.np_space.proofs.HeaderLemmas.{order_total}
+use Rattle.np_region.specs.Keeping.{KeepsRegions, EachFits}
+use Rattle.np_atomizer.specs.Classes.{cuts_say, IsAlike, IsLeastAlike, HasAlike, AreLeasts}
+use Rattle.np_atomizer.specs.Atoms.{tests_of, regions_of, leasts_of, answers_of, CoverValid, AreAtoms}
+use Rattle.np_atomizer.specs.Splitting.{count_having, HasSome, IsClass, AreClasses, IsRead}
+use Rattle.np_atomizer.specs.declared.atom_list.Atom.{Atom}
+use Rattle.np_atomizer.proofs.ClassLaws.{before_from_distinct}
+use Rattle.np_atomizer.proofs.SplitLaws.{count_cons, classes_fit}
+
+module _ {S R : Type 0} (fits : S → R → Type 0) (has : S → R → Header → Bool) where
+  -- ---- reading the classes
+
+  -- While the classes are read: which regions are left, and which atoms stand already.
+  pub record AreReadTo (s : S) (cuts regions left : List R) (atoms : List (Atom R)) : Type 0 where
+    pub fit : EachFits fits s left
+    pub some : All (HasSome has s) left
+    pub same : regions_of atoms ++ left ≡ regions
+    pub read : All (IsRead has s cuts) atoms
+
+  pub read_none : (s : S) (cuts regions left : List R) (atoms : List (Atom R)) → left ≡ regions → atoms ≡ [] → EachFits fits s regions → All (HasSome has s) regions → AreReadTo s cuts regions left atoms
+  read_none s cuts regions left atoms e p fit some =
+      subst (λ l. AreReadTo s cuts regions l atoms) (sym e) (subst (λ l. AreReadTo s cuts regions regions l) (sym p) (record {
+        fit = fit;
+        some = some;
+        same = refl;
+        read = All-nil (IsRead has s cuts);
+      }))
+
+  pub next_fits : (s : S) (cuts regions left rest : List R) (r : R) (atoms : List (Atom R)) → left ≡ r ∷ rest → AreReadTo s cuts regions left atoms → fits s r × HasSome has s r
+  next_fits s cuts regions left rest r atoms e so_far =
+      (All-head (fits s) r rest (subst (EachFits fits s) e so_far.fit), All-head (HasSome has s) r rest (subst (All (HasSome has s)) e so_far.some))
+
+  pub read_more : (s : S) (cuts regions left rest : List R) (r : R) (atoms after : List (Atom R)) (a : Atom R) → left ≡ r ∷ rest → after ≡ atoms ++ a ∷ [] → AreReadTo s cuts regions left atoms → a.region ≡ r → IsRead has s cuts a → AreReadTo s cuts regions rest after
+  read_more s cuts regions left rest r atoms after a e p so_far at read =
+      subst (λ l. AreReadTo s cuts regions rest l) (sym p) (record {
+        fit = All-tail (fits s) r rest (subst (EachFits fits s) e so_far.fit);
+        some = All-tail (HasSome has s) r rest (subst (All (HasSome has s)) e so_far.some);
+        same =
+            ap (λ l. l ++ rest) (map-append (λ x. x.region) atoms (a ∷ []))
+            ∙ append_assoc (regions_of atoms) (a.region ∷ []) rest
+            ∙ (λ i. regions_of atoms ++ at i ∷ rest)
+            ∙ ap (λ l. regions_of atoms ++ l) (sym e)
+            ∙ so_far.same;
+        read = All-push (IsRead has s cuts) atoms a so_far.read read;
+      })
+
+  pub read_all : (s : S) (cuts regions left : List R) (atoms : List (Atom R)) → length left ≡ 0 → AreReadTo s cuts regions left atoms → regions_of atoms ≡ regions
+  read_all s cuts regions [] atoms none so_far = sym (append-nil (regions_of atoms)) ∙ so_far.same
+    where
+      append-nil : (xs : List R) → xs ++ [] ≡ xs
+      append-nil [] = refl
+      append-nil (x ∷ xs) = ap (λ l. x ∷ l) (append-nil xs)
+  read_all s cuts regions (r ∷ left) atoms none so_far = absurd (omega arith)
+
+  pub classes_some : (s : S) (tests : List (Header → Bool)) (rs : List R) → All (IsClass fits has s tests) rs → All (HasSome has s) rs
+  classes_some s tests rs all = All-weaker (IsClass fits has s tests) (HasSome has s) (λ r c. c.some) rs all
+
+  -- what the cuts say as tests of the store before they were cut
+  answers_said : (old s : S) (cuts : List R) (h : Header) → KeepsRegions fits has old s → EachFits fits old cuts → map (λ cut. has s cut h) cuts ≡ cuts_say (tests_of has old cuts) h
+  answers_said old s [] h k each = refl
+  answers_said old s (cut ∷ cuts) h k each =
+      λ i. k.same cut (All-head (fits old) cut cuts each) h i ∷ answers_said old s cuts h k (All-tail (fits old) cut cuts each) i
+
+  -- ---- how many atoms have a header
+
+  some_counted : (s : S) (atoms : List (Atom R)) (n : ℕ) (d : Atom R) (h : Header) → n < length atoms → has s (get_or atoms n d).region h ≡ true → 1 ≤ count_having has s (regions_of atoms) h
+  some_counted s [] n d h l p = absurd (omega arith)
+  some_counted s (a ∷ atoms) zero d h l p =
+      let first = count_cons fits has s a.region (regions_of atoms) h in
+      let one : flag_number (has s a.region h) ≡ 1 = ap flag_number p in
+      omega arith
+  some_counted s (a ∷ atoms) (suc n) d h l p =
+      let first = count_cons fits has s a.region (regions_of atoms) h in
+      let below : n < length atoms = omega arith in
+      let rest = some_counted s atoms n d h below p in
+      omega arith
+
+  counted_some : (s : S) (atoms : List (Atom R)) (h : Header) → 1 ≤ count_having has s (regions_of atoms) h → Any (λ a. has s a.region h ≡ true) atoms
+  counted_some s [] h l = absurd (omega arith)
+  counted_some s (a ∷ atoms) h l =
+      by (has s a.region h) refl (counted_some s atoms h)
+    where
+      by : (b : Bool) → has s a.region h ≡ b → (1 ≤ count_having has s (regions_of atoms) h → Any (λ x. has s x.region h ≡ true) atoms) → Any (λ x. has s x.region h ≡ true) (a ∷ atoms)
+      by true e rest = (0, a, omega arith, refl, e)
+      by false e rest =
+          let first = count_cons fits has s a.region (regions_of atoms) h in
+          let none : flag_number (has s a.region h) ≡ 0 = ap flag_number e in
+          let found = rest (omega arith) in
+          let below : found.0 < length atoms = found.2 in
+          (suc found.0, found.1, omega arith, found.3, found.4)
+
+  -- ---- the order of the atoms
+
+  abbrev IsNotAfter : Atom R → Atom R → Type 0
+  IsNotAfter x y = is_lt (header_order y.least x.least) ≡ false
+
+  pairs_from_sorted : (atoms : List (Atom R)) → IsSortedBy (λ x y. is_lt (header_order x.least y.least)) atoms → AllPairs IsNotAfter atoms
+  pairs_from_sorted atoms sorted i j d l m =
+      sorted_far (λ x y. is_lt (header_order x.least y.least)) (ranks_by order_total (λ (x : Atom R). x.least)) atoms sorted i j d (omega arith) m
+
+  -- the least members of atoms in order ascend, since no header is in two of them
+  ascend : (s : S) (atoms : List (Atom R)) → AllPairs IsNotAfter atoms → ((h : Header) → count_having has s (regions_of atoms) h ≤ 1) → All (λ a. has s a.region a.least ≡ true) atoms → IsStrictlySortedBy header_order (leasts_of atoms)
+  unfolding IsStrictlySortedBy
+  ascend s [] pairs once own = tt
+  ascend s (a ∷ atoms) pairs once own = (
+    recursion_from_All (λ y. header_order a.least y ≡ Less) (leasts_of atoms) (All-map (λ y. header_order a.least y ≡ Less) (λ x. x.least) atoms below),
+    ascend s atoms (λ i j d l m. pairs (suc i) (suc j) d (omega arith) (omega arith)) fewer (All-tail (λ x. has s x.region x.least ≡ true) a atoms own),
+  )
+    where
+      fewer : (h : Header) → count_having has s (regions_of atoms) h ≤ 1
+      fewer h =
+          let first = count_cons fits has s a.region (regions_of atoms) h in
+          let all = once h in
+          omega arith
+
+      apart : (k : ℕ) (d : Atom R) → k < length atoms → a.least ≡ (get_or atoms k d).least → ⊥
+      apart k d l e =
+          let h = (get_or atoms k d).least in
+          let first = count_cons fits has s a.region (regions_of atoms) h in
+          let own_here : has s a.region a.least ≡ true = All-head (λ x. has s x.region x.least ≡ true) a atoms own in
+          let one : flag_number (has s a.region h) ≡ 1 = ap (λ x. flag_number (has s a.region x)) (sym e) ∙ ap flag_number own_here in
+          let own_there : has s (get_or atoms k d).region h ≡ true =
+          All-tail (λ x. has s x.region x.least ≡ true) a atoms own k d l in
+          let rest = some_counted s atoms k d h l own_there in
+          let all = once h in
+          omega arith
+
+      below : All (λ x. header_order a.least x.least ≡ Less) atoms
+      below k d l = before_from_distinct a.least (get_or atoms k d).least (pairs 0 (suc k) d (omega arith) (omega arith)) (apart k d l)
+
+  -- ---- the atoms
+
+  -- what holds of each atom
+  pub record IsAtom (s : S) (tests : List (Header → Bool)) (a : Atom R) : Type 0 where
+    pub class : IsClass fits has s tests a.region
+    pub least : IsLeast (has s a.region) a.least
+    pub answers : a.answers.items ≡ cuts_say tests a.least
+
+  all_atoms : (s : S) (tests : List (Header → Bool)) (cuts : List R) (atoms : List (Atom R)) → ((h : Header) → map (λ cut. has s cut h) cuts ≡ cuts_say tests h) → All (IsClass fits has s tests) (regions_of atoms) → All (IsRead has s cuts) atoms → All (IsAtom s tests) atoms
+  all_atoms s tests cuts atoms said classes read = λ k d l.
+      let a = get_or atoms k d in
+      let at : get_or (regions_of atoms) k d.region ≡ a.region = get_or-map (λ x. x.region) atoms k d in
+      let one = read k d l in
+      record {
+        class = subst (IsClass fits has s tests) at (classes k d.region (subst (λ n. k < n) (sym (length-map atoms (λ (x : Atom R). x.region))) l));
+        least = one.least;
+        answers = one.answers ∙ said a.least;
+      }
+
+  answers_are : (s : S) (tests : List (Header → Bool)) (atoms : List (Atom R)) → All (IsAtom s tests) atoms → answers_of atoms ≡ map (cuts_say tests) (leasts_of atoms)
+  answers_are s tests [] all = refl
+  answers_are s tests (a ∷ atoms) all =
+      λ i. (All-head (IsAtom s tests) a atoms all).answers i ∷ answers_are s tests atoms (All-tail (IsAtom s tests) a atoms all) i
+
+  module _ (valid : (s : S) (r : R) (h : Header) → fits s r → IsTrue (has s r h) → IsValid h) where
+    least_alike : (s : S) (tests : List (Header → Bool)) (a : Atom R) → IsAtom s tests a → IsLeastAlike tests a.least
+    least_alike s tests a atom =
+        record {
+          valid = valid s a.region a.least atom.class.fit atom.least.has;
+          least = λ h v alike. atom.least.least h (atom.class.all a.least h atom.least.has v alike);
+        }
+
+    pub atoms_in_order : (s : S) (tests : List (Header → Bool)) (atoms : List (Atom R)) → All (IsAtom s tests) atoms → ((h : Header) → count_having has s (regions_of atoms) h ≡ flag_number (is_valid_header h)) → IsSortedBy (λ x y. is_lt (header_order x.least y.least)) atoms → AreAtoms fits has s tests atoms
+    atoms_in_order s tests atoms all count sorted =
+        record {
+          cover = record {
+            fit = All-map (fits s) (λ x. x.region) atoms (All-weaker (IsAtom s tests) (λ x. fits s x.region) (λ a p. p.class.fit) atoms all);
+            some = found;
+          };
+          leasts = record {
+            each = All-map (IsLeastAlike tests) (λ x. x.least) atoms (All-weaker (IsAtom s tests) (λ x. IsLeastAlike tests x.least) (least_alike s tests) atoms all);
+            ascending = ascend s atoms (pairs_from_sorted atoms sorted) (λ h. let c = count h in let f = flag_small (is_valid_header h) in omega arith) (All-weaker (IsAtom s tests) (λ x. has s x.region x.least ≡ true) (λ a p. p.least.has) atoms all);
+            reached = reached;
+          };
+          answers = answers_are s tests atoms all;
+          exact = All-weaker (IsAtom s tests) (λ x. (h : Header) → (IsTrue (has s x.region h) → IsValid h × IsAlike tests x.least h) × (IsValid h × IsAlike tests x.least h → IsTrue (has s x.region h))) exact_one atoms all;
+        }
+      where
+        found : (h : Header) → IsValid h → Any (λ a. IsTrue (has s a.region h)) atoms
+        found h v =
+            let c = count h in
+            let one : flag_number (is_valid_header h) ≡ 1 = ap flag_number v in
+            counted_some s atoms h (omega arith)
+
+        reached : (h : Header) → IsValid h → HasAlike tests (leasts_of atoms) h
+        reached h v =
+            let f = found h v in
+            let a = f.1 in
+            let atom : IsAtom s tests a = subst (IsAtom s tests) f.3 (all f.0 a f.2) in
+            record {
+              one = a.least;
+              listed = (f.0, subst (λ n. f.0 < n) (sym (length-map atoms (λ (x : Atom R). x.least))) f.2, get_or-map (λ x. x.least) atoms f.0 a ∙ ap (λ x. x.least) f.3);
+              alike = atom.class.only a.least h atom.least.has f.4;
+            }
+
+        exact_one : (a : Atom R) → IsAtom s tests a → (h : Header) → (IsTrue (has s a.region h) → IsValid h × IsAlike tests a.least h) × (IsValid h × IsAlike tests a.least h → IsTrue (has s a.region h))
+        exact_one a atom h = (
+          (λ p. (valid s a.region h atom.class.fit p, atom.class.only a.least h atom.least.has p)),
+          (λ p. atom.class.all a.least h atom.least.has p.0 p.1),
+        )
+
+    -- the atoms that are read of the classes, once they are sorted
+    pub atoms_sorted : (old s : S) (cuts classes : List R) (before after : List (Atom R)) → EachFits fits old cuts → KeepsRegions fits has old s → AreClasses fits has s (tests_of has old cuts) classes → regions_of before ≡ classes → All (IsRead has s cuts) before → IsPermutation before after → IsSortedBy (λ x y. is_lt (header_order x.least y.least)) after → AreAtoms fits has s (tests_of has old cuts) after
+    atoms_sorted old s cuts classes before after fc k are same read moved sorted =
+        let tests = tests_of has old cuts in
+        let all : All (IsAtom s tests) before =
+        all_atoms s tests cuts before (λ h. answers_said old s cuts h k fc) (subst (All (IsClass fits has s tests)) (sym same) are.each) read in
+        atoms_in_order s tests after (All-permutation (IsAtom s tests) before after moved all)
+          (λ h.
+            sum_by-IsPermutation (λ r. flag_number (has s r h)) (regions_of before) (regions_of after) (IsPermutation-map (λ x. x.region) before after moved)
+            ∙ ap (λ l. count_having has s l h) same
+            ∙ are.count h)
+          sorted
+
+  -- ---- the atom that has a header
+
+  pub region_fits : (s : S) (atoms : List (Atom R)) (n : ℕ) (a : Atom R) → EachFits fits s (regions_of atoms) → n < length atoms → a ≡ get_or atoms n a → fits s a.region
+  region_fits s atoms n a each l at =
+      subst (fits s) (get_or-map (λ x. x.region) atoms n a ∙ ap (λ x. x.region) (sym at)) (each n a.region (subst (λ k. n < k) (sym (length-map atoms (λ (x : Atom R). x.region))) l))
+
+  pub none_left : (s : S) (atoms : List (Atom R)) (h : Header) → CoverValid fits has s atoms → IsValid h → ((k : ℕ) (d : Atom R) → k < length atoms → has s (get_or atoms k d).region h ≡ false) → ⊥
+  none_left s atoms h cover v none =
+      let f = cover.some h v in
+      true≢false (sym f.4 ∙ ap (λ x. has s x.region h) (sym f.3) ∙ none f.0 f.1 f.2)
+
+  pub region_found : (s : S) (atoms : List (Atom R)) (n : ℕ) (a : Atom R) (h : Header) → n < length atoms → a ≡ get_or atoms n a → has s a.region h ≡ true → (d : R) → IsTrue (has s (get_or (regions_of atoms) n d) h)
+  region_found s atoms n a h l at p d =
+      ap (λ r. has s r h) (get_or_inside (λ (x : Atom R). x.region) atoms n a d l ∙ ap (λ x. x.region) (sym at)) ∙ p
+
+  pub alike_found : (s : S) (atoms : List (Atom R)) (n : ℕ) (a : Atom R) (h : Header) → n < length atoms → a ≡ get_or atoms n a → has s a.region h ≡ true → (tests : List (Header → Bool)) → AreAtoms fits has s tests atoms → (d : Header) → IsAlike tests (get_or (leasts_of atoms) n d) h
+  alike_found s atoms n a h l at p tests are d =
+      let exact = are.exact n a l h in
+      let alike = (exact.0 (ap (λ x. has s x.region h) (sym at) ∙ p)).1 in
+      subst (λ x. IsAlike tests x h) (sym (get_or_inside (λ (x : Atom R). x.least) atoms n a d l)) alike

@@ -1,0 +1,37 @@
+-- What the atoms of a list of cuts are, over any store of regions.
+use Rattle.std.specs.Prelude.{◌≡◌, ◌↔◌, Bool, IsTrue, List, map}
+use Rattle.std.specs.List.{All, Any}
+use Rattle.np_space.specs.Header.{IsValid}
+use Rattle.np_space.specs.declared.headers.Header.{Header}
+use Rattle.np_region.specs.Keeping.{EachFits}
+use Rattle.np_atomizer.specs.Classes.{cuts_say, IsAlike, AreLeasts}
+use Rattle.np_atomizer.specs.declared.atom_list.Atom.{Atom}
+
+-- the tests that the cuts are, as the store keeps them
+abbrev pub tests_of : {S R : Type 0} → (S → R → Header → Bool) → S → List R → List (Header → Bool)
+tests_of has s cuts = map (λ cut. has s cut) cuts
+
+-- the regions of the atoms
+abbrev pub regions_of : {R : Type 0} → List (Atom R) → List R
+regions_of atoms = map (λ a. a.region) atoms
+
+-- the least members of the atoms
+abbrev pub leasts_of : {R : Type 0} → List (Atom R) → List Header
+leasts_of atoms = map (λ a. a.least) atoms
+
+-- what the cuts say of the headers of each atom
+abbrev pub answers_of : {R : Type 0} → List (Atom R) → List (List Bool)
+answers_of atoms = map (λ a. a.answers.items) atoms
+
+-- the regions fit the store, and each valid header is in one of them
+pub record CoverValid {S R : Type 0} (fits : S → R → Type 0) (has : S → R → Header → Bool) (s : S) (atoms : List (Atom R)) : Type 0 where
+  pub fit : EachFits fits s (regions_of atoms)
+  pub some : (h : Header) → IsValid h → Any (λ a. IsTrue (has s a.region h)) atoms
+
+-- the atoms are the classes of the valid headers that the tests tell apart, in the order of their
+-- least members: the region of each has exactly the valid headers that are alike to its least one
+pub record AreAtoms {S R : Type 0} (fits : S → R → Type 0) (has : S → R → Header → Bool) (s : S) (tests : List (Header → Bool)) (atoms : List (Atom R)) : Type 0 where
+  pub cover : CoverValid fits has s atoms
+  pub leasts : AreLeasts tests (leasts_of atoms)
+  pub answers : answers_of atoms ≡ map (cuts_say tests) (leasts_of atoms)
+  pub exact : All (λ a. (h : Header) → IsTrue (has s a.region h) ↔ (IsValid h × IsAlike tests a.least h)) atoms

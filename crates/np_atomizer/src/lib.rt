@@ -1,0 +1,13 @@
+//! Atoms: the classes of valid headers that no cut tells apart. A cut is a region of a store.
+#![tactic(auto)]
+
+mod atom_list;
+mod cutting;
+mod laws;
+
+pub use atom_list::Atoms;
+pub use cutting::atomize;
+pub use laws::leasts_are_unique;
+
+#[cfg(test)]
+mod tests;

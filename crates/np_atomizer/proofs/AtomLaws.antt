@@ -1,14 +1,13 @@
 -- What is read of the classes, and the order of the atoms.
-use Rattle.std.proofs.Common.{◌≡◌, ℕ, suc, zero, ◌+◌, ◌<◌, ◌≤◌, Bool, true, false, List, [], ◌∷◌, ◌++◌, length, get_or, map, refl, sym, ◌∙◌, ap, subst, arith, append_assoc}
+use Rattle.std.proofs.Common.{◌≡◌, ℕ, suc, zero, ◌<◌, ◌≤◌, Bool, true, false, List, [], ◌∷◌, ◌++◌, length, get_or, map, refl, sym, ◌∙◌, ap, subst, arith, append_assoc}
 use Rattle.std.specs.Prelude.{IsTrue}
-use Rattle.std.specs.List.{All, AllPairs, Any, Contains}
+use Rattle.std.specs.List.{All, AllPairs, Any}
 use Rattle.std.specs.List.Sorted.{IsPermutation, IsSortedBy, IsStrictlySortedBy}
 use Rattle.std.specs.Ordering.{is_lt}
 use Rattle.std.specs.declared.cmp.Ordering.TheVariants.{Less}
 use Rattle.std.proofs.Math.ListN.{get_or-map}
-use Rattle.std.proofs.lemmas.Bool.{true≢false}
 use Rattle.std.proofs.lemmas.List.{map-append, length-map, get_or-map as get_or_inside}
-use Rattle.std.proofs.lemmas.List.Elements.{All-nil, All-head, All-tail, All-push, All-map, All-weaker, All-get_or, recursion_from_All}
+use Rattle.std.proofs.lemmas.List.Elements.{All-nil, All-head, All-tail, All-push, All-map, All-weaker, recursion_from_All}
 use Rattle.std.proofs.lemmas.List.Sorted.{All-permutation, IsPermutation-map, sum_by-IsPermutation, sorted_far, ranks_by}
 use Rattle.np_space.specs.Flag.{flag_number}
 use Rattle.np_space.specs.Header.{is_valid_header, IsValid, IsLeast, header_order}
@@ -16,12 +15,16 @@ use Rattle.np_space.specs.declared.headers.Header.{Header}
 use Rattle.np_space.proofs.FlagLemmas.{flag_small}
 use Rattle.np_space.proofs.HeaderLemmas.{order_total}
 use Rattle.np_region.specs.Keeping.{KeepsRegions, EachFits}
-use Rattle.np_atomizer.specs.Classes.{cuts_say, IsAlike, IsLeastAlike, HasAlike, AreLeasts}
-use Rattle.np_atomizer.specs.Atoms.{tests_of, regions_of, leasts_of, answers_of, CoverValid, AreAtoms}
+use Rattle.np_atomizer.specs.Classes.{cuts_say, IsAlike, IsLeastAlike, HasAlike}
+use Rattle.np_atomizer.specs.Atoms.{tests_of, regions_of, leasts_of, answers_of, AreAtoms}
 use Rattle.np_atomizer.specs.Splitting.{count_having, HasSome, IsClass, AreClasses, IsRead}
 use Rattle.np_atomizer.specs.declared.atom_list.Atom.{Atom}
 use Rattle.np_atomizer.proofs.ClassLaws.{before_from_distinct}
-use Rattle.np_atomizer.proofs.SplitLaws.{count_cons, classes_fit}
+use Rattle.np_atomizer.proofs.SplitLaws.{zeros, count_cons}
+
+-- an element of a list that equals another
+pub item_is : {X : Type 0} (xs ys : List X) (n : ℕ) (x : X) → xs ≡ ys → x ≡ get_or xs n x → x ≡ get_or ys n x
+item_is xs ys n x same at = at ∙ ap (λ l. get_or l n x) same
 
 module _ {S R : Type 0} (fits : S → R → Type 0) (has : S → R → Header → Bool) where
   -- ---- reading the classes
@@ -222,11 +225,11 @@ module _ {S R : Type 0} (fits : S → R → Type 0) (has : S → R → Header �
         let all : All (IsAtom s tests) before =
         all_atoms s tests cuts before (λ h. answers_said old s cuts h k fc) (subst (All (IsClass fits has s tests)) (sym same) are.each) read in
         atoms_in_order s tests after (All-permutation (IsAtom s tests) before after moved all)
-          (λ h.
-            sum_by-IsPermutation (λ r. flag_number (has s r h)) (regions_of before) (regions_of after) (IsPermutation-map (λ x. x.region) before after moved)
-            ∙ ap (λ l. count_having has s l h) same
-            ∙ are.count h)
-          sorted
+        (λ h.
+        sum_by-IsPermutation (λ r. flag_number (has s r h)) (regions_of before) (regions_of after) (IsPermutation-map (λ x. x.region) before after moved)
+        ∙ ap (λ l. count_having has s l h) same
+        ∙ are.count h)
+        sorted
 
   -- ---- the atom that has a header
 
@@ -234,17 +237,47 @@ module _ {S R : Type 0} (fits : S → R → Type 0) (has : S → R → Header �
   region_fits s atoms n a each l at =
       subst (fits s) (get_or-map (λ x. x.region) atoms n a ∙ ap (λ x. x.region) (sym at)) (each n a.region (subst (λ k. n < k) (sym (length-map atoms (λ (x : Atom R). x.region))) l))
 
-  pub none_left : (s : S) (atoms : List (Atom R)) (h : Header) → CoverValid fits has s atoms → IsValid h → ((k : ℕ) (d : Atom R) → k < length atoms → has s (get_or atoms k d).region h ≡ false) → ⊥
-  none_left s atoms h cover v none =
-      let f = cover.some h v in
-      true≢false (sym f.4 ∙ ap (λ x. has s x.region h) (sym f.3) ∙ none f.0 f.1 f.2)
-
-  pub region_found : (s : S) (atoms : List (Atom R)) (n : ℕ) (a : Atom R) (h : Header) → n < length atoms → a ≡ get_or atoms n a → has s a.region h ≡ true → (d : R) → IsTrue (has s (get_or (regions_of atoms) n d) h)
-  region_found s atoms n a h l at p d =
-      ap (λ r. has s r h) (get_or_inside (λ (x : Atom R). x.region) atoms n a d l ∙ ap (λ x. x.region) (sym at)) ∙ p
-
-  pub alike_found : (s : S) (atoms : List (Atom R)) (n : ℕ) (a : Atom R) (h : Header) → n < length atoms → a ≡ get_or atoms n a → has s a.region h ≡ true → (tests : List (Header → Bool)) → AreAtoms fits has s tests atoms → (d : Header) → IsAlike tests (get_or (leasts_of atoms) n d) h
-  alike_found s atoms n a h l at p tests are d =
+  pub alike_found : (s : S) (atoms : List (Atom R)) (n : ℕ) (a : Atom R) (h : Header) → n < length atoms → a ≡ get_or atoms n a → (answer : Bool) → answer ≡ has s a.region h → answer ≡ true → (tests : List (Header → Bool)) → AreAtoms fits has s tests atoms → (d : Header) → IsAlike tests (get_or (leasts_of atoms) n d) h
+  alike_found s atoms n a h l at answer e p tests are d =
       let exact = are.exact n a l h in
-      let alike = (exact.0 (ap (λ x. has s x.region h) (sym at) ∙ p)).1 in
+      let alike = (exact.0 (ap (λ x. has s x.region h) (sym at) ∙ sym e ∙ p)).1 in
       subst (λ x. IsAlike tests x h) (sym (get_or_inside (λ (x : Atom R). x.least) atoms n a d l)) alike
+
+  -- ---- for callers
+
+  answers_at : (s : S) (tests : List (Header → Bool)) (atoms : List (Atom R)) (n : ℕ) → AreAtoms fits has s tests atoms → n < length atoms → (d : Header) → get_or (answers_of atoms) n [] ≡ cuts_say tests (get_or (leasts_of atoms) n d)
+  answers_at s tests atoms n are l d =
+      ap (λ xs. get_or xs n []) are.answers
+      ∙ get_or_inside (cuts_say tests) (leasts_of atoms) n d [] (subst (λ m. n < m) (sym (length-map atoms (λ (x : Atom R). x.least))) l)
+
+  -- the atoms stay atoms over calls that keep the regions
+  pub atoms_kept : (s t : S) (tests : List (Header → Bool)) (atoms : List (Atom R)) → KeepsRegions fits has s t → AreAtoms fits has s tests atoms → AreAtoms fits has t tests atoms
+  atoms_kept s t tests atoms k are =
+      record {
+        cover = record {
+          fit = λ n d l. k.fit (get_or (regions_of atoms) n d) (are.cover.fit n d l);
+          some = λ h v. let f = are.cover.some h v in (f.0, f.1, f.2, f.3, same f.0 f.1 h f.2 f.3 ∙ f.4);
+        };
+        leasts = are.leasts;
+        answers = are.answers;
+        exact = λ n d l h.
+            let a = get_or atoms n d in
+            let at = n_th n d l in
+            ((λ p. (are.exact n d l h).0 (sym (k.same a.region at h) ∙ p)), (λ p. k.same a.region at h ∙ (are.exact n d l h).1 p));
+      }
+    where
+      n_th : (n : ℕ) (d : Atom R) → n < length atoms → fits s (get_or atoms n d).region
+      n_th n d l = subst (fits s) (get_or_inside (λ (x : Atom R). x.region) atoms n d d.region l) (are.cover.fit n d.region (subst (λ m. n < m) (sym (length-map atoms (λ (x : Atom R). x.region))) l))
+
+      same : (n : ℕ) (a : Atom R) (h : Header) → n < length atoms → get_or atoms n a ≡ a → has t a.region h ≡ has s a.region h
+      same n a h l at = k.same a.region (subst (λ x. fits s x.region) at (n_th n a l)) h
+
+  -- each atom has an answer for each cut
+  pub answers_counted : (s : S) (tests : List (Header → Bool)) (atoms : List (Atom R)) (n : ℕ) → AreAtoms fits has s tests atoms → n < length atoms → length (get_or (answers_of atoms) n []) ≡ length tests
+  answers_counted s tests atoms n are l = ap length (answers_at s tests atoms n are l zeros) ∙ length-map tests (λ test. test (get_or (leasts_of atoms) n zeros))
+
+  -- which is the cut's test of the atom's least member
+  pub answer_said : (s : S) (tests : List (Header → Bool)) (atoms : List (Atom R)) (n k : ℕ) (d : Header) (e : Header → Bool) → AreAtoms fits has s tests atoms → n < length atoms → k < length tests → get_or (get_or (answers_of atoms) n []) k false ≡ get_or tests k e (get_or (leasts_of atoms) n d)
+  answer_said s tests atoms n k d e are l m =
+      ap (λ xs. get_or xs k false) (answers_at s tests atoms n are l d)
+      ∙ get_or_inside (λ (test : Header → Bool). test (get_or (leasts_of atoms) n d)) tests k e false m

@@ -1,7 +1,7 @@
 -- Alike headers by one test more, and the least members of the classes, which the tests determine.
-use Rattle.std.proofs.Common.{◌≡◌, ◌<◌, Bool, true, false, List, [], ◌∷◌, ◌++◌, map, refl, sym, ◌∙◌, ap, subst, arith, inl, inr}
-use Rattle.std.specs.Prelude.{◌⊎◌, IsTrue}
-use Rattle.std.specs.List.{All, AllByRecursion, Contains}
+use Rattle.std.proofs.Common.{◌≡◌, ◌<◌, Bool, false, List, [], ◌∷◌, ◌++◌, refl, sym, ◌∙◌, ap, subst, arith, inl, inr}
+use Rattle.std.specs.Prelude.{◌⊎◌}
+use Rattle.std.specs.List.{AllByRecursion, Contains}
 use Rattle.std.specs.List.Sorted.{IsStrictlySortedBy}
 use Rattle.std.specs.declared.cmp.Ordering.{Ordering}
 use Rattle.std.specs.declared.cmp.Ordering.TheVariants.{Less, Equal, Greater}
@@ -9,7 +9,7 @@ use Rattle.std.specs.Ordering.{ordering_reverse, is_lt}
 use Rattle.std.proofs.lemmas.Cmp.{tied_itself}
 use Rattle.std.proofs.lemmas.List.{map-append}
 use Rattle.std.proofs.lemmas.List.Elements.{All-contains, All-from_recursion, Contains-push, Contains-push_cases, Contains-append_left, Contains-append_right, Contains-append_cases}
-use Rattle.np_space.specs.Header.{header_order, header_le, IsValid}
+use Rattle.np_space.specs.Header.{header_order}
 use Rattle.np_space.specs.declared.headers.Header.{Header}
 use Rattle.np_space.proofs.HeaderLemmas.{order_total, order_ties}
 use Rattle.np_space.proofs.OrderLemmas.{le_both_ways}
@@ -73,16 +73,24 @@ head_or_later x xs z c =
 -- the first elements of two such lists with the same elements are the same
 same_heads : (x y : Header) (xs ys : List Header) → AllByRecursion (λ z. header_order x z ≡ Less) xs → AllByRecursion (λ z. header_order y z ≡ Less) ys → Contains (y ∷ ys) x → Contains (x ∷ xs) y → x ≡ y
 same_heads x y xs ys up up' c d =
-    elim (head_or_later y ys x c) [ inl e ↦ sym e | inr in_ys ↦
-      elim (head_or_later x xs y d) [ inl e ↦ e | inr in_xs ↦
-        absurd (not_both_before x y (All-contains (λ z. header_order x z ≡ Less) xs y (All-from_recursion (λ z. header_order x z ≡ Less) xs up) in_xs) (All-contains (λ z. header_order y z ≡ Less) ys x (All-from_recursion (λ z. header_order y z ≡ Less) ys up') in_ys)) ] ]
+    elim (head_or_later y ys x c) [
+      | inl e ↦ sym e
+      | inr in_ys ↦
+          elim (head_or_later x xs y d) [
+            | inl e ↦ e
+            | inr in_xs ↦
+                absurd (not_both_before x y (All-contains (λ z. header_order x z ≡ Less) xs y (All-from_recursion (λ z. header_order x z ≡ Less) xs up) in_xs) (All-contains (λ z. header_order y z ≡ Less) ys x (All-from_recursion (λ z. header_order y z ≡ Less) ys up') in_ys))
+          ]
+    ]
 
 -- and what is behind the first of one is behind the first of the other
 behind_heads : (x y : Header) (xs ys : List Header) → x ≡ y → AllByRecursion (λ z. header_order x z ≡ Less) xs → ((z : Header) → Contains (x ∷ xs) z → Contains (y ∷ ys) z) → (z : Header) → Contains xs z → Contains ys z
 behind_heads x y xs ys e up among z c =
-    elim (head_or_later y ys z (among z (later x xs z c))) [ inl p ↦
-      absurd (not_before_itself x z (e ∙ p) (All-contains (λ w. header_order x w ≡ Less) xs z (All-from_recursion (λ w. header_order x w ≡ Less) xs up) c))
-    | inr q ↦ q ]
+    elim (head_or_later y ys z (among z (later x xs z c))) [
+      | inl p ↦
+          absurd (not_before_itself x z (e ∙ p) (All-contains (λ w. header_order x w ≡ Less) xs z (All-from_recursion (λ w. header_order x w ≡ Less) xs up) c))
+      | inr q ↦ q
+    ]
 
 same_lists : (xs ys : List Header) → IsStrictlySortedBy header_order xs → IsStrictlySortedBy header_order ys → ((z : Header) → Contains xs z → Contains ys z) → ((z : Header) → Contains ys z → Contains xs z) → xs ≡ ys
 unfolding IsStrictlySortedBy

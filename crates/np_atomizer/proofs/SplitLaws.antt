@@ -1,18 +1,17 @@
 -- How the classes of some tests are cut by one test more.
-use Rattle.std.proofs.Common.{◌≡◌, ℕ, ◌+◌, ◌≤◌, Bool, true, false, List, [], ◌∷◌, ◌++◌, map, refl, sym, ◌∙◌, ap, subst, arith, zero-add, add-zero, length}
-use Rattle.std.specs.Prelude.{◌&&◌, not, IsTrue, sum_by}
+use Rattle.std.proofs.Common.{◌≡◌, ℕ, ◌+◌, Bool, true, false, List, [], ◌∷◌, ◌++◌, refl, sym, ◌∙◌, ap, subst, arith, zero-add, add-zero, length}
+use Rattle.std.specs.Prelude.{◌&&◌, not}
 use Rattle.std.specs.List.{All}
 use Rattle.std.proofs.lemmas.Bool.{true≢false}
 use Rattle.std.proofs.lemmas.List.{map-append}
 use Rattle.std.proofs.lemmas.List.Elements.{All-nil, All-cons, All-head, All-tail, All-append, All-weaker}
 use Rattle.std.proofs.lemmas.List.Sums.{sum_by-cons, sum_by-append}
 use Rattle.np_space.specs.Flag.{flag_number}
-use Rattle.np_space.specs.Header.{is_valid_header, IsValid}
+use Rattle.np_space.specs.Header.{is_valid_header}
 use Rattle.np_space.specs.declared.headers.Header.{Header}
 use Rattle.np_space.proofs.FlagLemmas.{flag_apart, and_both}
 use Rattle.np_region.specs.Keeping.{KeepsRegions, EachFits}
 use Rattle.np_region.proofs.KeepingLemmas.{keeps_itself, keeps_chained, each_fits_kept}
-use Rattle.np_atomizer.specs.Classes.{IsAlike}
 use Rattle.np_atomizer.specs.Atoms.{tests_of}
 use Rattle.np_atomizer.specs.Splitting.{count_having, HasSome, IsClass, AreClasses, AreParts, HasParts}
 use Rattle.np_atomizer.proofs.ClassLaws.{alike_more, alike_fewer}
@@ -41,6 +40,14 @@ other_true r false er e = absurd (true≢false (sym er ∙ sym (and_one r) ∙ e
     and_one : (t : Bool) → (t && true) ≡ t
     and_one true = refl
     and_one false = refl
+
+-- a header of zeros is valid
+pub zeros : Header
+zeros = record { src = 0; dst = 0; proto = 0; a = 0; b = 0; est = false }
+
+zeros_valid : is_valid_header zeros ≡ true
+unfolding is_valid_header zeros
+zeros_valid = refl
 
 module _ {S R : Type 0} (fits : S → R → Type 0) (has : S → R → Header → Bool) where
   -- ---- counts
@@ -97,11 +104,11 @@ module _ {S R : Type 0} (fits : S → R → Type 0) (has : S → R → Header �
         fit = All-cons (fits t) r [] (k.fit r fr) (All-nil (fits t));
         each = λ tests c.
             All-cons (IsClass fits has t (tests ++ has s cut ∷ [])) r []
-              (part_class s t cut r r answer tests c (k.fit r fr)
-                (λ none. c.some (λ h. sym (k.same r fr h) ∙ none h))
-                (λ h p. (sym (k.same r fr h) ∙ p, same h (sym (k.same r fr h) ∙ p)))
-                (λ h p a. k.same r fr h ∙ p))
-              (All-nil (IsClass fits has t (tests ++ has s cut ∷ [])));
+            (part_class s t cut r r answer tests c (k.fit r fr)
+            (λ none. c.some (λ h. sym (k.same r fr h) ∙ none h))
+            (λ h p. (sym (k.same r fr h) ∙ p, same h (sym (k.same r fr h) ∙ p)))
+            (λ h p a. k.same r fr h ∙ p))
+            (All-nil (IsClass fits has t (tests ++ has s cut ∷ [])));
         count = λ h. count_one t r h ∙ ap flag_number (k.same r fr h);
       }
 
@@ -112,7 +119,7 @@ module _ {S R : Type 0} (fits : S → R → Type 0) (has : S → R → Header �
   pub no_outside : (s t u : S) (cut r outside : R) → KeepsRegions fits has s t → KeepsRegions fits has t u → fits s r → fits s cut → ((h : Header) → has u outside h ≡ (has t r h && not (has t cut h))) → ((h : Header) → has u outside h ≡ false) → AreParts fits has s u cut r (r ∷ [])
   no_outside s t u cut r outside k l fr fc exact none =
       one_part s u cut r true (keeps_chained fits has s t u k l) fr (λ h p.
-          other_true (has s r h) (has s cut h) p ((λ i. sym (k.same r fr h) i && not (sym (k.same cut fc h) i)) ∙ sym (exact h) ∙ none h))
+      other_true (has s r h) (has s cut h) p ((λ i. sym (k.same r fr h) i && not (sym (k.same cut fc h) i)) ∙ sym (exact h) ∙ none h))
 
   pub two_parts : (s t u : S) (cut r inside outside : R) → KeepsRegions fits has s t → KeepsRegions fits has t u → fits s r → fits s cut → fits t inside → ((h : Header) → has t inside h ≡ (has s r h && has s cut h)) → HasSome has t inside → fits u outside → ((h : Header) → has u outside h ≡ (has t r h && not (has t cut h))) → HasSome has u outside → AreParts fits has s u cut r ((inside ∷ []) ++ outside ∷ [])
   two_parts s t u cut r inside outside k l fr fc fi exact_in some_in fo exact_out some_out =
@@ -121,13 +128,13 @@ module _ {S R : Type 0} (fits : S → R → Type 0) (has : S → R → Header �
         each = λ tests c.
             let P : R → Type 0 = IsClass fits has u (tests ++ has s cut ∷ []) in
             All-append P (inside ∷ []) (outside ∷ [])
-              (single P inside (part_class s u cut r inside true tests c (l.fit inside fi)
-                (λ none. some_in (λ h. sym (l.same inside fi h) ∙ none h))
-                (λ h p. both_true (has s r h) (has s cut h) (sym (in_u h) ∙ p))
-                (λ h p a. in_u h ∙ and_both (has s r h) (has s cut h) p a)))
-              (single P outside (part_class s u cut r outside false tests c fo some_out
-                (λ h p. one_not (has s r h) (has s cut h) (sym (out_u h) ∙ p))
-                (λ h p a. out_u h ∙ and_not (has s r h) (has s cut h) p a)));
+            (single P inside (part_class s u cut r inside true tests c (l.fit inside fi)
+            (λ none. some_in (λ h. sym (l.same inside fi h) ∙ none h))
+            (λ h p. both_true (has s r h) (has s cut h) (sym (in_u h) ∙ p))
+            (λ h p a. in_u h ∙ and_both (has s r h) (has s cut h) p a)))
+            (single P outside (part_class s u cut r outside false tests c fo some_out
+            (λ h p. one_not (has s r h) (has s cut h) (sym (out_u h) ∙ p))
+            (λ h p a. out_u h ∙ and_not (has s r h) (has s cut h) p a)));
         count = λ h.
             count_append u (inside ∷ []) (outside ∷ []) h
             ∙ (λ i. (count_one u inside h ∙ ap flag_number (in_u h)) i + (count_one u outside h ∙ ap flag_number (out_u h)) i)
@@ -175,8 +182,7 @@ module _ {S R : Type 0} (fits : S → R → Type 0) (has : S → R → Header �
             let first : IsClass fits has s tests r =
             class_kept old s tests r so_far.kept (All-head (IsClass fits has old tests) r left before.0) in
             let added : All P new.more =
-            subst (λ (f : Header → Bool). All (IsClass fits has t (tests ++ f ∷ [])) new.more) (λ i h. so_far.kept.same cut fc h i) (new.parts.each tests first) in
-            (
+            subst (λ (f : Header → Bool). All (IsClass fits has t (tests ++ f ∷ [])) new.more) (λ i h. so_far.kept.same cut fc h i) (new.parts.each tests first) in (
               All-tail (IsClass fits has old tests) r left before.0,
               subst (All P) (sym new.is) (All-append P parts new.more (All-weaker (IsClass fits has s (tests ++ has old cut ∷ [])) P (λ x c. class_kept s t (tests ++ has old cut ∷ []) x k c) parts before.1) added),
             );
@@ -226,19 +232,11 @@ module _ {S R : Type 0} (fits : S → R → Type 0) (has : S → R → Header �
         kept = keeps_chained fits has old s t so_far.kept k;
         are =
             subst (λ (tests : List (Header → Bool)). AreClasses fits has t tests parts)
-              ((λ i. tests_of has old cuts ++ (λ h. so_far.kept.same cut fc h i) ∷ []) ∙ sym (map-append (has old) cuts (cut ∷ [])))
-              (step (tests_of has old cuts) so_far.are);
+            ((λ i. tests_of has old cuts ++ (λ h. so_far.kept.same cut fc h i) ∷ []) ∙ sym (map-append (has old) cuts (cut ∷ [])))
+            (step (tests_of has old cuts) so_far.are);
       }
 
   -- ---- the one class of no cut
-
-  -- a header of zeros is valid
-  zeros : Header
-  zeros = record { src = 0; dst = 0; proto = 0; a = 0; b = 0; est = false }
-
-  zeros_valid : is_valid_header zeros ≡ true
-  unfolding is_valid_header zeros
-  zeros_valid = refl
 
   pub whole_class : (s : S) (r : R) → fits s r → ((h : Header) → has s r h ≡ is_valid_header h) → AreClasses fits has s [] (r ∷ [])
   whole_class s r fr exact =

@@ -1,10 +1,10 @@
 -- What holds of the classes while they are cut. None of it stands in a public contract.
-use Rattle.std.specs.Prelude.{◌≡◌, ◌++◌, ◌∷◌, [], ℕ, ◌+◌, Bool, false, IsTrue, List, map, sum_by}
+use Rattle.std.specs.Prelude.{◌≡◌, ◌++◌, ◌∷◌, [], ℕ, Bool, false, IsTrue, List, map, sum_by}
 use Rattle.std.specs.List.{All}
 use Rattle.np_space.specs.Flag.{flag_number}
 use Rattle.np_space.specs.Header.{is_valid_header, IsValid, IsLeast}
 use Rattle.np_space.specs.declared.headers.Header.{Header}
-use Rattle.np_region.specs.Keeping.{KeepsRegions, EachFits}
+use Rattle.np_region.specs.Keeping.{EachFits}
 use Rattle.np_atomizer.specs.Classes.{IsAlike}
 use Rattle.np_atomizer.specs.declared.atom_list.Atom.{Atom}
 

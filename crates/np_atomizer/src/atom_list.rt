@@ -4,7 +4,7 @@ ghost use Rattle.std.specs.Prelude.{◌≡◌, ◌<◌, [], Bool, false, IsTrue,
 ghost use Rattle.np_space.specs.Header.{IsValid};
 ghost use Rattle.np_space.specs.declared.headers.Header.{Header};
 ghost use Rattle.np_atomizer.specs.Classes.{IsAlike};
-ghost use Rattle.np_atomizer.specs.Atoms.{regions_of, leasts_of, answers_of, CoverValid, AreAtoms};
+ghost use Rattle.np_atomizer.specs.Atoms.{atoms_in, regions_of, leasts_of, answers_of, CoverValid, AreAtoms};
 
 use np_region::Regions;
 use np_space::Header;
@@ -29,15 +29,15 @@ pub struct Atoms<R> {
 impl<R: Drop> Atoms<R> {
     /// How many atoms there are.
     pub fn len(&self) -> usize
-        ensures { result ≡ length self.now.atoms.items }
+        ensures { result ≡ length (atoms_in self.now) }
     {
         self.atoms.len()
     }
 
     /// The least member of atom n, by the order of headers. Needs n below the number of atoms.
     pub fn least(&self, n: usize) -> Header
-        requires { n < length self.now.atoms.items }
-        ensures { (d : Header) → result ≡ slice_index_or (leasts_of self.now.atoms.items) n d }
+        requires { n < length (atoms_in self.now) }
+        ensures { (d : Header) → result ≡ slice_index_or (leasts_of (atoms_in self.now)) n d }
     {
         self.atoms[n].least
     }
@@ -45,17 +45,17 @@ impl<R: Drop> Atoms<R> {
     /// Whether the cut has the headers of atom n. Needs n below the number of atoms, and the cut's
     /// number below the number of cuts.
     pub fn answer(&self, n: usize, cut: usize) -> bool
-        requires atom { n < length self.now.atoms.items }
-        requires cut { cut < length (slice_index_or (answers_of self.now.atoms.items) n []) }
-        ensures { result ≡ slice_index_or (slice_index_or (answers_of self.now.atoms.items) n []) cut false }
+        requires atom { n < length (atoms_in self.now) }
+        requires cut { cut < length (slice_index_or (answers_of (atoms_in self.now)) n []) }
+        ensures { result ≡ slice_index_or (slice_index_or (answers_of (atoms_in self.now)) n []) cut false }
     {
         self.atoms[n].answers[cut]
     }
 
     /// The region of atom n, which has exactly the atom's headers. Needs n below the number of atoms.
     pub fn region(&self, n: usize) -> &R
-        requires { n < length self.now.atoms.items }
-        ensures { (d : R) → result.now ≡ slice_index_or (regions_of self.now.atoms.items) n d }
+        requires { n < length (atoms_in self.now) }
+        ensures { (d : R) → result.now ≡ slice_index_or (regions_of (atoms_in self.now)) n d }
     {
         &self.atoms[n].region
     }
@@ -64,10 +64,10 @@ impl<R: Drop> Atoms<R> {
     /// were made with, or one in which their regions mean the same.
     pub fn atom_of<S: Regions<R = R>>(&self, store: &S, h: &Header) -> usize
         requires valid { IsValid h.now }
-        requires cover { CoverValid S.fits S.has_header store.now self.now.atoms.items }
-        ensures within { result < length self.now.atoms.items }
-        ensures has { (d : R) → IsTrue (S.has_header store.now (slice_index_or (regions_of self.now.atoms.items) result d) h.now) }
-        ensures alike { (tests : List (Header → Bool)) → AreAtoms S.fits S.has_header store.now tests self.now.atoms.items → (d : Header) → IsAlike tests (slice_index_or (leasts_of self.now.atoms.items) result d) h.now }
+        requires cover { CoverValid S.fits S.has_header store.now (atoms_in self.now) }
+        ensures within { result < length (atoms_in self.now) }
+        ensures has { (d : R) → IsTrue (S.has_header store.now (slice_index_or (regions_of (atoms_in self.now)) result d) h.now) }
+        ensures alike { (tests : List (Header → Bool)) → AreAtoms S.fits S.has_header store.now tests (atoms_in self.now) → (d : Header) → IsAlike tests (slice_index_or (leasts_of (atoms_in self.now)) result d) h.now }
     {
         for (n, atom) in self.atoms.iter().enumerate() {
             if store.has(&atom.region, h) {
@@ -79,7 +79,7 @@ impl<R: Drop> Atoms<R> {
 
     /// The least members of the atoms, in their order. Fails only for want of memory.
     pub fn leasts(&self, alloc: Global) -> Result<Vec<Header>, AllocError>
-        ensures { IfOk result (λ v. v.items ≡ leasts_of self.now.atoms.items) }
+        ensures { IfOk result (λ v. v.items ≡ leasts_of (atoms_in self.now)) }
     {
         self.atoms.iter().map(|atom| atom.least).collect(alloc)
     }

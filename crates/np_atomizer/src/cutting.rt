@@ -4,7 +4,7 @@ ghost use Rattle.std.specs.Prelude.{◌≡◌, ◌∷◌, [], ◌++◌, Bool, If
 ghost use Rattle.std.specs.List.{All};
 ghost use Rattle.np_space.specs.declared.headers.Header.{Header};
 ghost use Rattle.np_region.specs.Keeping.{KeepsRegions, EachFits};
-ghost use Rattle.np_atomizer.specs.Atoms.{tests_of, regions_of, AreAtoms};
+ghost use Rattle.np_atomizer.specs.Atoms.{tests_of, atoms_in, regions_of, AreAtoms};
 ghost use Rattle.np_atomizer.specs.Splitting.{HasSome, AreClasses, HasParts, IsRead};
 
 use crate::atom_list::{Atom, Atoms};
@@ -159,7 +159,7 @@ pub fn atomize<S: Regions>(
 ) -> Result<Atoms<S::R>, AllocError>
     requires { EachFits S.fits store.old cuts.now }
     ensures kept { KeepsRegions S.fits S.has_header store.old store.new }
-    ensures atoms { IfOk result (λ r. AreAtoms S.fits S.has_header store.new (tests_of S.has_header store.old cuts.now) r.atoms.items) }
+    ensures atoms { IfOk result (λ r. AreAtoms S.fits S.has_header store.new (tests_of S.has_header store.old cuts.now) (atoms_in r)) }
 {
     let classes = classes_of(alloc, store, cuts)?;
     let mut atoms = atoms_with(alloc, store, classes, cuts)?;

@@ -1,4 +1,4 @@
-use Rattle.std.proofs.Common.{◌≡◌, [], ◌∷◌, sym, ◌∙◌}
+use Rattle.std.proofs.Common.{sym, ◌∙◌}
 use Rattle.std.specs.Vec.Iter.{into_iter_items}
 use Rattle.np_atomizer.proofs.AtomLaws.{read_none, next_fits, read_more, read_all}
 use Rattle.np_atomizer.proofs.cutting.atoms_with.Goals as goal

@@ -1,5 +1,3 @@
-use Rattle.std.proofs.Common.{[], ◌∷◌, sym, subst, ◌∙◌, ap, ◌++◌}
-use Rattle.np_atomizer.specs.Splitting.{AreClasses}
 use Rattle.np_atomizer.proofs.SplitLaws.{whole_class}
 use Rattle.np_atomizer.proofs.cutting.one_class.Goals as goal
 

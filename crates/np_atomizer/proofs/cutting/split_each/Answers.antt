@@ -1,4 +1,4 @@
-use Rattle.std.proofs.Common.{◌≡◌, [], ◌∷◌, sym, ◌∙◌}
+use Rattle.std.proofs.Common.{sym, ◌∙◌}
 use Rattle.std.specs.Vec.Iter.{into_iter_items}
 use Rattle.np_atomizer.proofs.SplitLaws.{split_start, next_fits, split_next, split_all}
 use Rattle.np_atomizer.proofs.cutting.split_each.Goals as goal

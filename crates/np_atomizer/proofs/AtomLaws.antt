@@ -1,6 +1,6 @@
 -- What is read of the classes, and the order of the atoms.
 use Rattle.std.proofs.Common.{◌≡◌, ℕ, suc, zero, ◌<◌, ◌≤◌, Bool, true, false, List, [], ◌∷◌, ◌++◌, length, get_or, map, refl, sym, ◌∙◌, ap, subst, arith, append_assoc}
-use Rattle.std.specs.Prelude.{IsTrue}
+use Rattle.std.specs.Prelude.{◌↔◌, IsTrue}
 use Rattle.std.specs.List.{All, AllPairs, Any}
 use Rattle.std.specs.List.Sorted.{IsPermutation, IsSortedBy, IsStrictlySortedBy}
 use Rattle.std.specs.Ordering.{is_lt}
@@ -15,12 +15,12 @@ use Rattle.np_space.specs.declared.headers.Header.{Header}
 use Rattle.np_space.proofs.FlagLemmas.{flag_small}
 use Rattle.np_space.proofs.HeaderLemmas.{order_total}
 use Rattle.np_region.specs.Keeping.{KeepsRegions, EachFits}
-use Rattle.np_atomizer.specs.Classes.{cuts_say, IsAlike, IsLeastAlike, HasAlike}
+use Rattle.np_atomizer.specs.Classes.{cuts_say, IsAlike, IsLeastAlike, HasAlike, first_header}
 use Rattle.np_atomizer.specs.Atoms.{tests_of, regions_of, leasts_of, answers_of, AreAtoms}
 use Rattle.np_atomizer.specs.Splitting.{count_having, HasSome, IsClass, AreClasses, IsRead}
 use Rattle.np_atomizer.specs.declared.atom_list.Atom.{Atom}
 use Rattle.np_atomizer.proofs.ClassLaws.{before_from_distinct}
-use Rattle.np_atomizer.proofs.SplitLaws.{zeros, count_cons}
+use Rattle.np_atomizer.proofs.SplitLaws.{count_cons}
 
 -- an element of a list that equals another
 pub item_is : {X : Type 0} (xs ys : List X) (n : ℕ) (x : X) → xs ≡ ys → x ≡ get_or xs n x → x ≡ get_or ys n x
@@ -274,10 +274,30 @@ module _ {S R : Type 0} (fits : S → R → Type 0) (has : S → R → Header �
 
   -- each atom has an answer for each cut
   pub answers_counted : (s : S) (tests : List (Header → Bool)) (atoms : List (Atom R)) (n : ℕ) → AreAtoms fits has s tests atoms → n < length atoms → length (get_or (answers_of atoms) n []) ≡ length tests
-  answers_counted s tests atoms n are l = ap length (answers_at s tests atoms n are l zeros) ∙ length-map tests (λ test. test (get_or (leasts_of atoms) n zeros))
+  answers_counted s tests atoms n are l = ap length (answers_at s tests atoms n are l first_header) ∙ length-map tests (λ test. test (get_or (leasts_of atoms) n first_header))
 
   -- which is the cut's test of the atom's least member
   pub answer_said : (s : S) (tests : List (Header → Bool)) (atoms : List (Atom R)) (n k : ℕ) (d : Header) (e : Header → Bool) → AreAtoms fits has s tests atoms → n < length atoms → k < length tests → get_or (get_or (answers_of atoms) n []) k false ≡ get_or tests k e (get_or (leasts_of atoms) n d)
   answer_said s tests atoms n k d e are l m =
       ap (λ xs. get_or xs k false) (answers_at s tests atoms n are l d)
       ∙ get_or_inside (λ (test : Header → Bool). test (get_or (leasts_of atoms) n d)) tests k e false m
+
+  -- the n-th region fits the store
+  pub region_in_store : (s : S) (tests : List (Header → Bool)) (atoms : List (Atom R)) (n : ℕ) (r : R) → AreAtoms fits has s tests atoms → n < length atoms → ((d : R) → r ≡ get_or (regions_of atoms) n d) → fits s r
+  region_in_store s tests atoms n r are l at =
+      subst (fits s) (sym (at r)) (are.cover.fit n r (subst (λ k. n < k) (sym (length-map atoms (λ (x : Atom R). x.region))) l))
+
+  -- and has exactly the valid headers that are alike to the n-th least member
+  pub region_is_class : (s : S) (tests : List (Header → Bool)) (atoms : List (Atom R)) (n : ℕ) (r : R) (x h : Header) → AreAtoms fits has s tests atoms → n < length atoms → ((d : R) → r ≡ get_or (regions_of atoms) n d) → ((d : Header) → x ≡ get_or (leasts_of atoms) n d) → IsTrue (has s r h) ↔ (IsValid h × IsAlike tests x h)
+  region_is_class s tests atoms n r x h are l at is =
+      by atoms are.exact l at is
+    where
+      by : (bs : List (Atom R)) → All (λ a. (h : Header) → IsTrue (has s a.region h) ↔ (IsValid h × IsAlike tests a.least h)) bs → n < length bs → ((d : R) → r ≡ get_or (regions_of bs) n d) → ((d : Header) → x ≡ get_or (leasts_of bs) n d) → IsTrue (has s r h) ↔ (IsValid h × IsAlike tests x h)
+      by [] exact l at is = absurd (omega arith)
+      by (a ∷ bs) exact l at is =
+          let same_region : r ≡ (get_or (a ∷ bs) n a).region = at r ∙ get_or_inside (λ (y : Atom R). y.region) (a ∷ bs) n a r l in
+          let same_least : x ≡ (get_or (a ∷ bs) n a).least = is x ∙ get_or_inside (λ (y : Atom R). y.least) (a ∷ bs) n a x l in
+          let one = exact n a l h in (
+            (λ p. let q = one.0 (ap (λ y. has s y h) (sym same_region) ∙ p) in (q.0, subst (λ y. IsAlike tests y h) (sym same_least) q.1)),
+            (λ q. ap (λ y. has s y h) same_region ∙ one.1 (q.0, subst (λ y. IsAlike tests y h) same_least q.1)),
+          )

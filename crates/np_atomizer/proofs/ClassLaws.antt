@@ -1,19 +1,20 @@
 -- Alike headers by one test more, and the least members of the classes, which the tests determine.
-use Rattle.std.proofs.Common.{◌≡◌, ◌<◌, Bool, false, List, [], ◌∷◌, ◌++◌, refl, sym, ◌∙◌, ap, subst, arith, inl, inr}
+use Rattle.std.proofs.Common.{◌≡◌, ℕ, zero, suc, ◌<◌, ◌≤◌, Bool, true, false, List, length, get_or, [], ◌∷◌, ◌++◌, refl, sym, ◌∙◌, ap, subst, arith, inl, inr}
 use Rattle.std.specs.Prelude.{◌⊎◌}
 use Rattle.std.specs.List.{AllByRecursion, Contains}
 use Rattle.std.specs.List.Sorted.{IsStrictlySortedBy}
 use Rattle.std.specs.declared.cmp.Ordering.{Ordering}
 use Rattle.std.specs.declared.cmp.Ordering.TheVariants.{Less, Equal, Greater}
 use Rattle.std.specs.Ordering.{ordering_reverse, is_lt}
+use Rattle.std.proofs.lemmas.Bool.{cases_lt, cases_eq}
 use Rattle.std.proofs.lemmas.Cmp.{tied_itself}
 use Rattle.std.proofs.lemmas.List.{map-append}
-use Rattle.std.proofs.lemmas.List.Elements.{All-contains, All-from_recursion, Contains-push, Contains-push_cases, Contains-append_left, Contains-append_right, Contains-append_cases}
-use Rattle.np_space.specs.Header.{header_order}
+use Rattle.std.proofs.lemmas.List.Elements.{All-nil, All-cons, All-contains, All-from_recursion, Contains-push, Contains-push_cases, Contains-append_left, Contains-append_right, Contains-append_cases}
+use Rattle.np_space.specs.Header.{is_valid_header, header_order, header_le}
 use Rattle.np_space.specs.declared.headers.Header.{Header}
 use Rattle.np_space.proofs.HeaderLemmas.{order_total, order_ties}
-use Rattle.np_space.proofs.OrderLemmas.{le_both_ways}
-use Rattle.np_atomizer.specs.Classes.{cuts_say, IsAlike, IsLeastAlike, HasAlike, AreLeasts, LeastsAreUnique}
+use Rattle.np_space.proofs.OrderLemmas.{le_both_ways, le_by_fields}
+use Rattle.np_atomizer.specs.Classes.{cuts_say, IsAlike, IsLeastAlike, HasAlike, AreLeasts, LeastsAreUnique, OneForEachClass, first_header, OneClassWithoutCuts}
 
 -- ---- one test more
 
@@ -116,3 +117,52 @@ among tests xs ys a b z c =
 
 pub leasts_are_unique : LeastsAreUnique
 leasts_are_unique tests xs ys a b = same_lists xs ys a.ascending b.ascending (among tests xs ys a b) (among tests ys xs b a)
+
+-- ---- one least member for each class
+
+-- each header of a list that ascends stands before the later ones
+before_later : (xs : List Header) (i j : ℕ) (d : Header) → IsStrictlySortedBy header_order xs → i < j → j < length xs → header_order (get_or xs i d) (get_or xs j d) ≡ Less
+unfolding IsStrictlySortedBy
+before_later [] i j d up l m = absurd (omega arith)
+before_later (x ∷ xs) i zero d up l m = absurd (omega arith)
+before_later (x ∷ xs) zero (suc j) d up l m = All-from_recursion (λ z. header_order x z ≡ Less) xs up.0 j d (omega arith)
+before_later (x ∷ xs) (suc i) (suc j) d up l m = before_later xs i j d up.1 (omega arith) (omega arith)
+
+-- alike least members are the same header
+same_least : (tests : List (Header → Bool)) (x y : Header) → IsLeastAlike tests x → IsLeastAlike tests y → IsAlike tests x y → x ≡ y
+same_least tests x y p q alike = le_both_ways x y (p.least y q.valid alike) (q.least x p.valid (sym alike))
+
+pub one_for_each_class : OneForEachClass
+one_for_each_class tests xs are i j d l m alike = by (cases_eq i j)
+  where
+    same : get_or xs i d ≡ get_or xs j d
+    same = same_least tests (get_or xs i d) (get_or xs j d) (are.each i d l) (are.each j d m) alike
+
+    apart : (i < j) ⊎ (j ≤ i) → (i ≡ j → ⊥) → ⊥
+    apart (inl below) differ = not_before_itself (get_or xs i d) (get_or xs j d) same (before_later xs i j d are.ascending below m)
+    apart (inr above) differ = not_before_itself (get_or xs j d) (get_or xs i d) (sym same) (before_later xs j i d are.ascending (omega arith) l)
+
+    by : (i ≡ j) ⊎ (i ≡ j → ⊥) → i ≡ j
+    by (inl e) = e
+    by (inr differ) = absurd (apart (cases_lt i j) differ)
+
+-- ---- no cuts
+
+pub first_valid : is_valid_header first_header ≡ true
+unfolding is_valid_header
+first_valid = refl
+
+first_least : (h : Header) → header_le first_header h ≡ true
+first_least h = le_by_fields first_header h (omega arith) (omega arith) (omega arith) (omega arith) (omega arith) (omega arith)
+
+first_alone : AreLeasts [] (first_header ∷ [])
+unfolding IsStrictlySortedBy
+first_alone =
+    record {
+      each = All-cons (IsLeastAlike []) first_header [] (record { valid = first_valid; least = λ h v alike. first_least h }) (All-nil (IsLeastAlike []));
+      ascending = (tt, tt);
+      reached = λ h v. record { one = first_header; listed = here first_header []; alike = refl };
+    }
+
+pub one_class_without_cuts : OneClassWithoutCuts
+one_class_without_cuts leasts are = leasts_are_unique [] leasts (first_header ∷ []) are first_alone

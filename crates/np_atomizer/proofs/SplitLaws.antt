@@ -12,9 +12,10 @@ use Rattle.np_space.specs.declared.headers.Header.{Header}
 use Rattle.np_space.proofs.FlagLemmas.{flag_apart, and_both}
 use Rattle.np_region.specs.Keeping.{KeepsRegions, EachFits}
 use Rattle.np_region.proofs.KeepingLemmas.{keeps_itself, keeps_chained, each_fits_kept}
+use Rattle.np_atomizer.specs.Classes.{first_header}
 use Rattle.np_atomizer.specs.Atoms.{tests_of}
 use Rattle.np_atomizer.specs.Splitting.{count_having, HasSome, IsClass, AreClasses, AreParts, HasParts}
-use Rattle.np_atomizer.proofs.ClassLaws.{alike_more, alike_fewer}
+use Rattle.np_atomizer.proofs.ClassLaws.{alike_more, alike_fewer, first_valid}
 
 -- ---- tests of two flags
 
@@ -40,14 +41,6 @@ other_true r false er e = absurd (true≢false (sym er ∙ sym (and_one r) ∙ e
     and_one : (t : Bool) → (t && true) ≡ t
     and_one true = refl
     and_one false = refl
-
--- a header of zeros is valid
-pub zeros : Header
-zeros = record { src = 0; dst = 0; proto = 0; a = 0; b = 0; est = false }
-
-zeros_valid : is_valid_header zeros ≡ true
-unfolding is_valid_header zeros
-zeros_valid = refl
 
 module _ {S R : Type 0} (fits : S → R → Type 0) (has : S → R → Header → Bool) where
   -- ---- counts
@@ -243,7 +236,7 @@ module _ {S R : Type 0} (fits : S → R → Type 0) (has : S → R → Header �
       record {
         each = All-cons (IsClass fits has s []) r [] (record {
           fit = fr;
-          some = λ none. true≢false (sym zeros_valid ∙ sym (exact zeros) ∙ none zeros);
+          some = λ none. true≢false (sym first_valid ∙ sym (exact first_header) ∙ none first_header);
           only = λ h g p q. refl;
           all = λ h g p v alike. exact g ∙ v;
         }) (All-nil (IsClass fits has s []));

@@ -1,6 +1,6 @@
 -- The classes of valid headers that no cut tells apart, and their least members. A cut stands for its
 -- test: whether it has a header.
-use Rattle.std.specs.Prelude.{◌≡◌, Bool, IsTrue, List, map}
+use Rattle.std.specs.Prelude.{◌≡◌, ℕ, ◌<◌, Bool, false, IsTrue, List, [], ◌∷◌, map, length, slice_index_or}
 use Rattle.std.specs.List.{All, Contains}
 use Rattle.std.specs.List.Sorted.{IsStrictlySortedBy}
 use Rattle.np_space.specs.Header.{IsValid, header_order, header_le}
@@ -34,3 +34,15 @@ pub record AreLeasts (tests : List (Header → Bool)) (leasts : List Header) : T
 -- they are determined by the tests
 abbrev pub LeastsAreUnique : Type 0
 LeastsAreUnique = (tests : List (Header → Bool)) (xs ys : List Header) → AreLeasts tests xs → AreLeasts tests ys → xs ≡ ys
+
+-- no two of them are alike
+abbrev pub OneForEachClass : Type 0
+OneForEachClass = (tests : List (Header → Bool)) (leasts : List Header) → AreLeasts tests leasts → (i j : ℕ) (d : Header) → i < length leasts → j < length leasts → IsAlike tests (slice_index_or leasts i d) (slice_index_or leasts j d) → i ≡ j
+
+-- the header whose fields are all 0
+abbrev pub first_header : Header
+first_header = record { src = 0; dst = 0; proto = 0; a = 0; b = 0; est = false }
+
+-- without cuts there is one class, whose least member is that header
+abbrev pub OneClassWithoutCuts : Type 0
+OneClassWithoutCuts = (leasts : List Header) → AreLeasts [] leasts → leasts ≡ first_header ∷ []

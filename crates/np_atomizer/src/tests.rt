@@ -21,8 +21,8 @@ fn line<R: Drop>(alloc: Global, atoms: &Atoms<R>, n: usize) -> Result<String, Al
     Ok(text)
 }
 
-// Each atom's line; "!" behind one whose least member is not found in the atom itself, or is not the
-// least of its region.
+// Each atom's line; "!" behind one whose least member is not found in the atom itself, is not the least
+// of its region, or stands elsewhere in the list.
 fn table<S: Regions>(alloc: Global, store: &mut S, cuts: &[S::R]) -> Result<String, AllocError>
     requires { EachFits S.fits store.old cuts.now }
 {
@@ -33,7 +33,8 @@ fn table<S: Regions>(alloc: Global, store: &mut S, cuts: &[S::R]) -> Result<Stri
         text.push_str(line(alloc, &atoms, n)?.as_str())?;
         let least = atoms.least(n);
         let found = is_valid(&least) && atoms.atom_of(store, &least) == n;
-        if !found || leasts.get(n) != Some(&least) {
+        let own = store.least(atoms.region(n)) == Some(least);
+        if !found || !own || leasts.get(n) != Some(&least) {
             text.push_str("!")?;
         }
         text.push_str("\n")?;

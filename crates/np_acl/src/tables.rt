@@ -107,7 +107,7 @@ fn number_or_named(max: u16, table: &[(&[u8], u16)], word: &[u8]) -> Option<u16>
 }
 
 /// The numbers from `low` to `high`. Where `low` is greater, `high` alone.
-fn span_from(low: u16, high: u16) -> Span
+pub fn span_from(low: u16, high: u16) -> Span
     ensures { result ≡ tables.span_from low high }
 {
     Span {

@@ -1,0 +1,14 @@
+//! A device's configuration: its access lists and groups, and how they are read.
+#![tactic(auto)]
+
+mod config;
+mod declared;
+mod fault;
+mod line_error;
+mod ports;
+mod spans;
+mod statement;
+mod words;
+
+pub use config::{Config, Group, Lists, Way, empty_config};
+pub use fault::{ConfigError, ConfigFault, ConfigWhy};

@@ -1,18 +1,19 @@
 -- What the statements of a configuration declare.
-use Rattle.std.specs.Prelude.{◌≡◌, ℕ, Bool, ◌&&◌, ◌==◌, List, [], ◌∷◌, ◌++◌, length, map, fold, Option, Some, None, if◌then◌else◌}
+use Rattle.std.specs.Prelude.{◌≡◌, ℕ, Bool, ◌&&◌,  List, [], ◌∷◌, ◌++◌, length, map, fold, Option, Some, None, if◌then◌else◌}
 use Rattle.std.specs.List.{filter_map, list_any}
 use Rattle.std.specs.BTreeMap.{insert_entry}
+use Rattle.indexmap.specs.IndexMap.{insert_entry as put}
 use Rattle.std.specs.Ordering.{nat_cmp}
 use Rattle.std.specs.Str.{bytes_eq}
+use Rattle.std.proofs.Math.Bool.{beq}
 use Rattle.np_acl.specs.declared.entries.Entry.{Entry}
 use Rattle.np_acl_read.specs.declared.config.Config.{Config}
 use Rattle.np_acl_read.specs.declared.config.Group.{Group}
 use Rattle.np_acl_read.specs.declared.config.Way.{Way}
 use Rattle.np_acl_read.specs.declared.config.Way.TheVariants as way
 use Rattle.np_acl_read.specs.declared.declared.Declared.{Declared}
-use Rattle.np_acl_read.specs.declared.declared.NumberedList.{NumberedList}
 use Rattle.np_acl_read.specs.declared.declared.Section.{Section}
-use Rattle.np_acl_read.specs.declared.declared.Section.TheVariants as section
+use Rattle.np_acl_read.specs.declared.declared.Section.TheVariants as sections
 use Rattle.np_acl_read.specs.declared.statement.Statement.{Statement}
 use Rattle.np_acl_read.specs.declared.statement.Statement.TheVariants as statement
 use Rattle.np_acl_read.specs.declared.statement.NumberedEntry.{NumberedEntry}
@@ -21,23 +22,23 @@ use Rattle.np_acl_read.specs.declared.statement.NumberedEntry.{NumberedEntry}
 
 -- another line closes a list's section, and leaves an interface's open
 abbrev pub closed_list : Section → Section
-closed_list section.Closed = section.Closed
-closed_list (section.Interface name) = section.Interface name
-closed_list (section.List name extended) = section.Closed
+closed_list sections.Closed = sections.Closed
+closed_list (sections.Interface name) = sections.Interface name
+closed_list (sections.List name extended) = sections.Closed
 
 -- the section that is open after a statement
 abbrev pub section_after : Section → Statement → Section
-section_after open (statement.Interface name) = section.Interface name
-section_after open (statement.Section list extended) = section.List list extended
-section_after open (statement.Remark list) = section.Closed
-section_after open (statement.ListEntry entry) = section.Closed
-section_after open (statement.SectionEntry entry) = open
-section_after open (statement.Group group) = open
-section_after open statement.Other = closed_list open
+section_after before (statement.Interface name) = sections.Interface name
+section_after before (statement.Section list extended) = sections.List list extended
+section_after before (statement.Remark list) = sections.Closed
+section_after before (statement.ListEntry entry) = sections.Closed
+section_after before (statement.SectionEntry entry) = before
+section_after before (statement.Group interface inward list) = before
+section_after before statement.Other = closed_list before
 
 -- the section that statements leave open
 abbrev pub section_of : List Statement → Section
-section_of statements = fold section_after section.Closed statements
+section_of statements = fold section_after sections.Closed statements
 
 -- ---- lists
 
@@ -48,7 +49,7 @@ list_in (statement.Section list extended) = Some list
 list_in (statement.Remark list) = Some list
 list_in (statement.ListEntry entry) = Some entry.list
 list_in (statement.SectionEntry entry) = Some entry.list
-list_in (statement.Group group) = None
+list_in (statement.Group interface inward list) = None
 list_in statement.Other = None
 
 -- names with one more, behind the others, where it isn't there
@@ -66,7 +67,7 @@ entry_in (statement.Section list extended) = None
 entry_in (statement.Remark list) = None
 entry_in (statement.ListEntry entry) = Some entry
 entry_in (statement.SectionEntry entry) = Some entry
-entry_in (statement.Group group) = None
+entry_in (statement.Group interface inward list) = None
 entry_in statement.Other = None
 
 -- an entry with its number, where it is one of this list
@@ -86,37 +87,31 @@ abbrev pub entries_of : List Statement → List ℕ → List (ℕ × Entry)
 entries_of statements name = in_order (filter_map (entry_of_list name) (filter_map entry_in statements))
 
 -- the lists, each with its entries
-abbrev pub lists_of : List Statement → List NumberedList
-lists_of statements = map (λ name. record { name = name; entries = entries_of statements name }) (names_of statements)
+abbrev pub lists_of : List Statement → List (List ℕ × List (ℕ × Entry))
+lists_of statements = map (λ name. (name, entries_of statements name)) (names_of statements)
 
 -- ---- groups
 
--- the list that a statement applies
-abbrev pub group_in : Statement → Option Group
+-- the list that a statement applies, at an interface, inward or outward
+abbrev pub group_in : Statement → Option ((List ℕ × Bool) × List ℕ)
 group_in (statement.Interface name) = None
 group_in (statement.Section list extended) = None
 group_in (statement.Remark list) = None
 group_in (statement.ListEntry entry) = None
 group_in (statement.SectionEntry entry) = None
-group_in (statement.Group group) = Some group
+group_in (statement.Group interface inward list) = Some ((interface, inward), list)
 group_in statement.Other = None
 
--- the way is the one in
-abbrev pub is_inward : Way → Bool
-is_inward way.Inward = true
-is_inward way.Outward = false
-
 -- the same interface and way
-abbrev pub same_place : Group → Group → Bool
-same_place x y = bytes_eq x.interface y.interface && (is_inward x.way == is_inward y.way)
+abbrev pub same_slot : List ℕ × Bool → List ℕ × Bool → Bool
+same_slot x y = bytes_eq x.0 y.0 && beq x.1 y.1
 
--- groups with one more: in the place of the one of its interface and way, or behind the others
-abbrev pub with_group : List Group → Group → List Group
-with_group [] group = group ∷ []
-with_group (first ∷ groups) group = if same_place group first then group ∷ groups else first ∷ with_group groups group
+-- the groups with one more: the list that is applied last at an interface and way counts
+abbrev pub with_group : List ((List ℕ × Bool) × List ℕ) → (List ℕ × Bool) × List ℕ → List ((List ℕ × Bool) × List ℕ)
+with_group groups group = put same_slot groups group.0 group.1
 
--- the groups: of the same interface and way the last counts
-abbrev pub groups_of : List Statement → List Group
+-- the list that counts at each interface and way, in the order in which they first appear
+abbrev pub groups_of : List Statement → List ((List ℕ × Bool) × List ℕ)
 groups_of statements = fold with_group [] (filter_map group_in statements)
 
 -- ---- the whole
@@ -124,15 +119,24 @@ groups_of statements = fold with_group [] (filter_map group_in statements)
 -- what statements declare
 unfoldable pub declared_by : List Statement → Declared
 declared_by statements = record {
-  open = section_of statements;
+  section = section_of statements;
   lists = lists_of statements;
   groups = groups_of statements;
   entries = length (filter_map entry_in statements);
 }
 
--- the configuration of what is declared: lists of entries without their numbers, and groups
-abbrev pub config_of_lists : List NumberedList → List (List ℕ × List Entry)
-config_of_lists lists = map (λ list. (list.name, map (λ entry. entry.1) list.entries)) lists
+-- a way by whether it is the one in
+abbrev pub way_of : Bool → Way
+way_of inward = if inward then way.Inward else way.Outward
 
+-- lists of entries without their numbers
+abbrev pub plain_lists : List (List ℕ × List (ℕ × Entry)) → List (List ℕ × List Entry)
+plain_lists lists = map (λ list. (list.0, map (λ entry. entry.1) list.1)) lists
+
+-- groups as a configuration has them
+abbrev pub plain_groups : List ((List ℕ × Bool) × List ℕ) → List Group
+plain_groups groups = map (λ group. record { interface = group.0.0; way = way_of group.0.1; list = group.1 }) groups
+
+-- the configuration of what is declared
 abbrev pub config_with : Declared → Config
-config_with declared = record { lists = config_of_lists declared.lists; groups = declared.groups }
+config_with declared = record { lists = plain_lists declared.lists; groups = plain_groups declared.groups }

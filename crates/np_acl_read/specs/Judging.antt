@@ -1,17 +1,16 @@
 -- How a line is judged against what the lines before it declare.
 use Rattle.std.specs.Prelude.{◌≡◌, ℕ, ◌+◌, Bool, true, false, ◌&&◌, ◌||◌, not, ◌==◌, nat_eq, nat_le, nat_lt, max, fold, List, [], ◌∷◌, map, is_some, Option, Some, None, option_and_then, option_map, Result, Ok, Err, codes, if◌then◌else◌}
 use Rattle.std.specs.Fmt.{decimal}
-use Rattle.std.specs.List.{find, list_any}
+use Rattle.std.specs.List.{list_any}
 use Rattle.std.specs.Option.{option_map_or}
 use Rattle.std.specs.Str.{all_ascii_digits, bytes_eq}
 use Rattle.np_text.specs.Numbers.{is_numeral, number_of}
 use Rattle.np_text.specs.Words.{words_of}
 use Rattle.np_acl.specs.declared.entries.Entry.{Entry}
-use Rattle.np_acl_read.specs.declared.config.Group.{Group}
+use Rattle.std.specs.Map.{lookup}
 use Rattle.np_acl_read.specs.declared.declared.Declared.{Declared}
-use Rattle.np_acl_read.specs.declared.declared.NumberedList.{NumberedList}
 use Rattle.np_acl_read.specs.declared.declared.Section.{Section}
-use Rattle.np_acl_read.specs.declared.declared.Section.TheVariants as section
+use Rattle.np_acl_read.specs.declared.declared.Section.TheVariants as sections
 use Rattle.np_acl_read.specs.declared.fault.ConfigWhy.{ConfigWhy}
 use Rattle.np_acl_read.specs.declared.fault.ConfigWhy.TheVariants as why
 use Rattle.np_acl_read.specs.declared.statement.NumberedEntry.{NumberedEntry}
@@ -32,8 +31,8 @@ number_limit = 2147483647
 -- ---- sequence numbers
 
 -- the numbers of a list's entries
-abbrev pub numbers_in : List NumberedList → List ℕ → List ℕ
-numbers_in lists name = option_map_or (λ (list : NumberedList). map (λ entry. entry.0) list.entries) (find (λ (list : NumberedList). bytes_eq name list.name) lists) []
+abbrev pub numbers_in : List (List ℕ × List (ℕ × Entry)) → List ℕ → List ℕ
+numbers_in lists name = option_map_or (λ entries. map (λ entry. entry.0) entries) (lookup (bytes_eq name) lists) []
 
 -- a number that an entry may have
 abbrev pub sequence_number : List ℕ → List ℕ → Judged ℕ
@@ -114,28 +113,28 @@ access_list (word ∷ words) =
     Ok statement.Other)
 
 -- nothing stands behind a group's way
-abbrev pub group_ended : Group → List (List ℕ) → Judged Statement
-group_ended group [] = Ok (statement.Group group)
+abbrev pub group_ended : Statement → List (List ℕ) → Judged Statement
+group_ended group [] = Ok group
 group_ended group (word ∷ words) = Err why.Unsupported
 
 -- `ip access-group ..` in the section of an interface, by the words behind these two
 unfoldable pub group_at : List ℕ → List (List ℕ) → Judged Statement
 group_at interface [] = Err why.BadEntry
 group_at interface (list ∷ []) = Err why.BadEntry
-group_at interface (list ∷ word ∷ words) = way_of word >>= λ way. group_ended (record { interface = interface; way = way; list = list }) words
+group_at interface (list ∷ word ∷ words) = way_of word >>= λ inward. group_ended (statement.Group interface inward list) words
 
 -- the same in any section
 abbrev pub group_line : Section → List (List ℕ) → Judged Statement
-group_line section.Closed words = Err why.BadEntry
-group_line (section.Interface name) words = group_at name words
-group_line (section.List name extended) words = Err why.BadEntry
+group_line sections.Closed words = Err why.BadEntry
+group_line (sections.Interface name) words = group_at name words
+group_line (sections.List name extended) words = Err why.BadEntry
 
 -- a line whose first word is `ip`
 unfoldable pub ip_line : Declared → List (List ℕ) → Judged Statement
 ip_line declared [] = Ok statement.Other
 ip_line declared (word ∷ words) =
     if bytes_eq word (codes "access-list") then access_list words else
-    (if bytes_eq word (codes "access-group") then group_line declared.open words else
+    (if bytes_eq word (codes "access-group") then group_line declared.section words else
     Ok statement.Other)
 
 -- ---- `no ..`
@@ -155,24 +154,24 @@ is_list_negated (word ∷ words) = is_some (list_number word)
 
 -- a list's section is open
 abbrev pub in_list : Section → Bool
-in_list section.Closed = false
-in_list (section.Interface name) = false
-in_list (section.List name extended) = true
+in_list sections.Closed = false
+in_list (sections.Interface name) = false
+in_list (sections.List name extended) = true
 
 -- this word behind `no` takes away a line of the list whose section is open
 abbrev pub is_line_negated : Section → List ℕ → Bool
-is_line_negated open word =
-    in_list open && (is_numeral word || is_some (action_of word) || bytes_eq word (codes "remark"))
+is_line_negated section word =
+    in_list section && (is_numeral word || is_some (action_of word) || bytes_eq word (codes "remark"))
 
 -- the words behind `no` take away what a list or a group says
 abbrev pub is_negated : Section → List (List ℕ) → Bool
-is_negated open [] = false
-is_negated open (word ∷ words) =
-    (bytes_eq word (codes "access-list") && is_list_negated words) || (bytes_eq word (codes "ip") && is_ip_negated words) || is_line_negated open word
+is_negated section [] = false
+is_negated section (word ∷ words) =
+    (bytes_eq word (codes "access-list") && is_list_negated words) || (bytes_eq word (codes "ip") && is_ip_negated words) || is_line_negated section word
 
 -- a line whose first word is `no`
 abbrev pub no_line : Declared → List (List ℕ) → Judged Statement
-no_line declared words = if is_negated declared.open words then Err why.Negated else Ok statement.Other
+no_line declared words = if is_negated declared.section words then Err why.Negated else Ok statement.Other
 
 -- ---- lines in the section of a list
 
@@ -194,9 +193,9 @@ section_line declared list extended word words =
 
 -- a line that begins with no keyword of its own
 abbrev pub other_line : Declared → Section → List ℕ → List (List ℕ) → Judged (Option Statement)
-other_line declared section.Closed word words = Ok (Some statement.Other)
-other_line declared (section.Interface name) word words = Ok (Some statement.Other)
-other_line declared (section.List name extended) word words =
+other_line declared sections.Closed word words = Ok (Some statement.Other)
+other_line declared (sections.Interface name) word words = Ok (Some statement.Other)
+other_line declared (sections.List name extended) word words =
     if begins_list_line word then section_line declared name extended word words else Ok (Some statement.Other)
 
 -- ---- the whole
@@ -224,7 +223,7 @@ words_say declared (word ∷ words) =
     (if bytes_eq word (codes "access-list") then said (list_line declared words) else
     (if bytes_eq word (codes "ip") then said (ip_line declared words) else
     (if bytes_eq word (codes "no") then said (no_line declared words) else
-    other_line declared declared.open word words))))
+    other_line declared declared.section word words))))
 
 -- what a line declares after lines that declare this
 unfoldable pub line_says : Declared → List ℕ → Judged (Option Statement)

@@ -3,6 +3,7 @@ pub mod Words
 pub mod Spans
 pub mod Entries
 pub mod Declaring
+pub mod Adding
 pub mod Judging
 pub mod Reading
 pub mod Answers

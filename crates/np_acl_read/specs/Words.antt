@@ -6,8 +6,6 @@ use Rattle.std.specs.Str.{bytes_eq}
 use Rattle.np_text.specs.Numbers.{is_numeral, number_of}
 use Rattle.np_acl_read.specs.declared.fault.ConfigWhy.{ConfigWhy}
 use Rattle.np_acl_read.specs.declared.fault.ConfigWhy.TheVariants as why
-use Rattle.np_acl_read.specs.declared.config.Way.{Way}
-use Rattle.np_acl_read.specs.declared.config.Way.TheVariants as way
 use Rattle.np_acl_read.specs.Why.{Judged, Read}
 
 -- what the lists of a configuration could say that this program has no answer to
@@ -34,11 +32,11 @@ word_in (word ∷ words) = if is_unsupported word then Err why.Unsupported else 
 abbrev pub too_great_or : List ℕ → ConfigWhy → ConfigWhy
 too_great_or word fault = if is_numeral word then why.BadNumber else fault
 
--- the ways are `in` and `out`
-abbrev pub way_of : List ℕ → Judged Way
+-- whether a way is the one in: the ways are `in` and `out`
+abbrev pub way_of : List ℕ → Judged Bool
 way_of word =
-    if bytes_eq word (codes "in") then Ok way.Inward else
-    (if bytes_eq word (codes "out") then Ok way.Outward else Err why.BadEntry)
+    if bytes_eq word (codes "in") then Ok true else
+    (if bytes_eq word (codes "out") then Ok false else Err why.BadEntry)
 
 -- `permit` or `deny`: whether an entry permits
 abbrev pub action_of : List ℕ → Option Bool

@@ -4,11 +4,10 @@
 mod config;
 mod declared;
 mod fault;
+mod groups;
 mod line_error;
-mod ports;
-mod spans;
+mod numbered;
 mod statement;
-mod words;
 
 pub use config::{Config, Group, Lists, Way, empty_config};
 pub use fault::{ConfigError, ConfigFault, ConfigWhy};

@@ -1,6 +1,5 @@
 //! What a line of a configuration declares.
 
-use crate::config::Group;
 use np_acl::Entry;
 use np_text::Name;
 
@@ -27,7 +26,11 @@ pub enum Statement {
     /// An entry in the section of its list.
     SectionEntry(NumberedEntry),
     /// `ip access-group NAME in` or `ip access-group NAME out`.
-    Group(Group),
+    Group {
+        interface: Name,
+        inward: bool,
+        list: Name,
+    },
     /// Any other line.
     Other,
 }

@@ -1,1 +1,4 @@
 pub mod NumberedLaws
+pub mod RoomLaws
+pub mod DeclarationLaws
+pub mod LineReading

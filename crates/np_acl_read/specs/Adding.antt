@@ -1,5 +1,5 @@
 -- What is declared with one more statement.
-use Rattle.std.specs.Prelude.{ℕ, ◌+◌, List, [], ◌∷◌, ◌++◌, map, unwrap_or, Option, Some, None, if◌then◌else◌}
+use Rattle.std.specs.Prelude.{ℕ, ◌+◌, ◌<◌, List, [], ◌∷◌, ◌++◌, map, unwrap_or, Option, Some, None, if◌then◌else◌}
 use Rattle.std.specs.List.{list_any}
 use Rattle.std.specs.Map.{lookup}
 use Rattle.std.specs.Str.{bytes_eq}
@@ -50,3 +50,27 @@ added declared said = record (told declared said) { section = section_after decl
 abbrev pub added_if : Declared → Option Statement → Declared
 added_if declared None = declared
 added_if declared (Some said) = added declared said
+
+-- the entries of one configuration, at most
+abbrev pub entry_limit : ℕ
+entry_limit = 20000
+
+-- a statement that may stand behind what is declared: there is room for its entry
+abbrev pub Fits : Declared → Statement → Type 0
+Fits declared (statement.Interface name) = Unit {0}
+Fits declared (statement.Section list extended) = Unit {0}
+Fits declared (statement.Remark list) = Unit {0}
+Fits declared (statement.ListEntry entry) = declared.entries < entry_limit
+Fits declared (statement.SectionEntry entry) = declared.entries < entry_limit
+Fits declared (statement.Group interface inward list) = Unit {0}
+Fits declared statement.Other = Unit {0}
+
+-- a statement that needs no room
+abbrev pub NeedsNoRoom : Statement → Type 0
+NeedsNoRoom (statement.Interface name) = Unit {0}
+NeedsNoRoom (statement.Section list extended) = Unit {0}
+NeedsNoRoom (statement.Remark list) = Unit {0}
+NeedsNoRoom (statement.ListEntry entry) = ⊥
+NeedsNoRoom (statement.SectionEntry entry) = ⊥
+NeedsNoRoom (statement.Group interface inward list) = Unit {0}
+NeedsNoRoom statement.Other = Unit {0}

@@ -1,5 +1,5 @@
 -- What the reader's calls answer.
-use Rattle.std.specs.Prelude.{◌≡◌, ℕ, List, Result, Ok, Err, map}
+use Rattle.std.specs.Prelude.{◌≡◌, ℕ, List, Option, Some, None, Result, Ok, Err, map}
 use Rattle.std.specs.Borrow.{Bor}
 use Rattle.np_acl_read.specs.declared.fault.ConfigError.{ConfigError}
 use Rattle.np_acl_read.specs.declared.fault.ConfigError.TheVariants as error
@@ -31,3 +31,10 @@ Reads (Err e) judged = StopsAs e judged
 abbrev pub IsFaultOf : {X : Type 0} → Result X ConfigFault → ConfigError → Type 0
 IsFaultOf meaning (error.Fault fault) = meaning ≡ Err fault
 IsFaultOf meaning (error.Memory e) = Unit {0}
+
+-- a call that may have nothing to say says what judging says
+abbrev pub GivesIf : {X : Type 0} → Option (Result X LineError) → Option (Judged X) → Type 0
+GivesIf None None = Unit {0}
+GivesIf None (Some judged) = ⊥
+GivesIf (Some result) None = ⊥
+GivesIf (Some result) (Some judged) = Gives result judged

@@ -16,13 +16,10 @@ use Rattle.np_acl_read.specs.declared.fault.ConfigWhy.TheVariants as why
 use Rattle.np_acl_read.specs.declared.statement.NumberedEntry.{NumberedEntry}
 use Rattle.np_acl_read.specs.declared.statement.Statement.{Statement}
 use Rattle.np_acl_read.specs.declared.statement.Statement.TheVariants as statement
+use Rattle.np_acl_read.specs.Adding.{entry_limit}
 use Rattle.np_acl_read.specs.Entries.{entry_of}
 use Rattle.np_acl_read.specs.Why.{Judged, ◌>>=◌}
 use Rattle.np_acl_read.specs.Words.{action_of, kind_of_number, way_of}
-
--- the entries of one configuration, at most
-abbrev pub entry_limit : ℕ
-entry_limit = 20000
 
 -- the greatest sequence number
 abbrev pub number_limit : ℕ
@@ -34,12 +31,14 @@ number_limit = 2147483647
 abbrev pub numbers_in : List (List ℕ × List (ℕ × Entry)) → List ℕ → List ℕ
 numbers_in lists name = option_map_or (λ entries. map (λ entry. entry.0) entries) (lookup (bytes_eq name) lists) []
 
--- a number that an entry may have
+-- a number that is none of those of a list
+abbrev pub unused : List ℕ → Option ℕ → Judged ℕ
+unused numbers None = Err why.BadNumber
+unused numbers (Some n) = if n == 0 then Err why.BadNumber else (if list_any (nat_eq n) numbers then Err why.DuplicateSequence else Ok n)
+
+-- the number of a word that an entry may have, from 1 on
 abbrev pub sequence_number : List ℕ → List ℕ → Judged ℕ
-sequence_number numbers word = in_range (number_of word number_limit) where
-  in_range : Option ℕ → Judged ℕ
-  in_range None = Err why.BadNumber
-  in_range (Some n) = if n == 0 then Err why.BadNumber else (if list_any (nat_eq n) numbers then Err why.DuplicateSequence else Ok n)
+sequence_number numbers word = unused numbers (number_of word number_limit)
 
 -- the number of an entry without one: 10 more than the greatest of its list
 abbrev pub next_number : List ℕ → Judged ℕ
@@ -67,14 +66,21 @@ numbered declared list extended word permit words =
 abbrev pub no_action : List ℕ → ConfigWhy
 no_action word = if bytes_eq word (codes "dynamic") || bytes_eq word (codes "evaluate") then why.Unsupported else why.BadEntry
 
--- an entry, or nothing for `remark`, whose words aren't judged; the function reads what stands behind `permit` or `deny`
-abbrev pub entry_or_remark : (Bool → List (List ℕ) → Judged NumberedEntry) → List (List ℕ) → Judged (Option NumberedEntry)
-entry_or_remark read [] = Err why.BadEntry
-entry_or_remark read (word ∷ words) =
-    if bytes_eq word (codes "remark") then Ok None else by_action (action_of word) where
-  by_action : Option Bool → Judged (Option NumberedEntry)
-  by_action None = Err (no_action word)
-  by_action (Some permit) = read permit words >>= λ entry. Ok (Some entry)
+-- an entry of a list, with the number of a word or without one, by the words behind `permit` or `deny`
+abbrev pub list_entry : Declared → List ℕ → Bool → Option (List ℕ) → Bool → List (List ℕ) → Judged NumberedEntry
+list_entry declared list extended None permit words = unnumbered declared list extended permit words
+list_entry declared list extended (Some word) permit words = numbered declared list extended word permit words
+
+-- the same by the word in the place of `permit` or `deny`
+abbrev pub acted : Declared → List ℕ → Bool → Option (List ℕ) → List ℕ → Option Bool → List (List ℕ) → Judged (Option NumberedEntry)
+acted declared list extended number word None words = Err (no_action word)
+acted declared list extended number word (Some permit) words = list_entry declared list extended number permit words >>= λ entry. Ok (Some entry)
+
+-- an entry of a list, or nothing for `remark`, whose words aren't judged
+unfoldable pub entry_or_remark : Declared → List ℕ → Bool → Option (List ℕ) → List (List ℕ) → Judged (Option NumberedEntry)
+entry_or_remark declared list extended number [] = Err why.BadEntry
+entry_or_remark declared list extended number (word ∷ words) =
+    if bytes_eq word (codes "remark") then Ok None else acted declared list extended number word (action_of word) words
 
 -- ---- `access-list N ..`
 
@@ -87,14 +93,16 @@ abbrev pub list_statement : List ℕ → Option NumberedEntry → Statement
 list_statement list None = statement.Remark list
 list_statement list (Some entry) = statement.ListEntry entry
 
+-- the line of the list of this number
+abbrev pub line_of_list : Declared → Option (ℕ × Bool) → List (List ℕ) → Judged Statement
+line_of_list declared None words = Ok statement.Other
+line_of_list declared (Some list) words =
+    entry_or_remark declared (decimal list.0) list.1 None words >>= λ entry. Ok (list_statement (decimal list.0) entry)
+
 -- the line of a numbered list; other words are no list's line
 unfoldable pub list_line : Declared → List (List ℕ) → Judged Statement
 list_line declared [] = Ok statement.Other
-list_line declared (word ∷ words) = by_number (list_number word) where
-  by_number : Option (ℕ × Bool) → Judged Statement
-  by_number None = Ok statement.Other
-  by_number (Some list) =
-      entry_or_remark (unnumbered declared (decimal list.0) list.1) words >>= λ entry. Ok (list_statement (decimal list.0) entry)
+list_line declared (word ∷ words) = line_of_list declared (list_number word) words
 
 -- ---- `ip ..`
 
@@ -139,13 +147,15 @@ ip_line declared (word ∷ words) =
 
 -- ---- `no ..`
 
+-- these words begin with the kind of a named list
+abbrev pub is_kind : List (List ℕ) → Bool
+is_kind [] = false
+is_kind (kind ∷ more) = bytes_eq kind (codes "extended") || bytes_eq kind (codes "standard")
+
 -- these words behind `no ip` take away a list or a group
 abbrev pub is_ip_negated : List (List ℕ) → Bool
 is_ip_negated [] = false
-is_ip_negated (word ∷ words) = bytes_eq word (codes "access-group") || (bytes_eq word (codes "access-list") && is_kind words) where
-  is_kind : List (List ℕ) → Bool
-  is_kind [] = false
-  is_kind (kind ∷ more) = bytes_eq kind (codes "extended") || bytes_eq kind (codes "standard")
+is_ip_negated (word ∷ words) = bytes_eq word (codes "access-group") || (bytes_eq word (codes "access-list") && is_kind words)
 
 -- these words behind `no access-list` take away a list
 abbrev pub is_list_negated : List (List ℕ) → Bool
@@ -163,11 +173,14 @@ abbrev pub is_line_negated : Section → List ℕ → Bool
 is_line_negated section word =
     in_list section && (is_numeral word || is_some (action_of word) || bytes_eq word (codes "remark"))
 
+-- a word behind `no` and those behind it take away a list or a group
+abbrev pub takes_away : List ℕ → List (List ℕ) → Bool
+takes_away word words = (bytes_eq word (codes "access-list") && is_list_negated words) || (bytes_eq word (codes "ip") && is_ip_negated words)
+
 -- the words behind `no` take away what a list or a group says
 abbrev pub is_negated : Section → List (List ℕ) → Bool
 is_negated section [] = false
-is_negated section (word ∷ words) =
-    (bytes_eq word (codes "access-list") && is_list_negated words) || (bytes_eq word (codes "ip") && is_ip_negated words) || is_line_negated section word
+is_negated section (word ∷ words) = takes_away word words || is_line_negated section word
 
 -- a line whose first word is `no`
 abbrev pub no_line : Declared → List (List ℕ) → Judged Statement
@@ -185,18 +198,23 @@ abbrev pub begins_list_line : List ℕ → Bool
 begins_list_line word =
     is_numeral word || is_some (action_of word) || bytes_eq word (codes "remark") || bytes_eq word (codes "dynamic") || bytes_eq word (codes "evaluate")
 
--- a line of the list whose section is open: an entry with a number or without one, or a remark
-unfoldable pub section_line : Declared → List ℕ → Bool → List ℕ → List (List ℕ) → Judged (Option Statement)
-section_line declared list extended word words =
-    (if is_numeral word then entry_or_remark (numbered declared list extended word) words
-    else entry_or_remark (unnumbered declared list extended) (word ∷ words)) >>= λ entry. Ok (section_statement entry)
+-- the entry of a line of this list: with a number in front or without one; nothing for a remark
+unfoldable pub section_entry : Declared → List ℕ → Bool → List (List ℕ) → Judged (Option NumberedEntry)
+section_entry declared list extended [] = entry_or_remark declared list extended None []
+section_entry declared list extended (word ∷ words) =
+    if is_numeral word then entry_or_remark declared list extended (Some word) words
+    else entry_or_remark declared list extended None (word ∷ words)
 
--- a line that begins with no keyword of its own
+-- a line of the list whose section is open, by all of its words
+abbrev pub section_line : Declared → List ℕ → Bool → List (List ℕ) → Judged (Option Statement)
+section_line declared list extended words = section_entry declared list extended words >>= λ entry. Ok (section_statement entry)
+
+-- a line that begins with no keyword of its own, by its first word and all of its words
 abbrev pub other_line : Declared → Section → List ℕ → List (List ℕ) → Judged (Option Statement)
 other_line declared sections.Closed word words = Ok (Some statement.Other)
 other_line declared (sections.Interface name) word words = Ok (Some statement.Other)
 other_line declared (sections.List name extended) word words =
-    if begins_list_line word then section_line declared name extended word words else Ok (Some statement.Other)
+    if begins_list_line word then section_line declared name extended words else Ok (Some statement.Other)
 
 -- ---- the whole
 
@@ -205,9 +223,19 @@ abbrev pub interface_line : List (List ℕ) → Judged Statement
 interface_line [] = Err why.BadEntry
 interface_line (name ∷ words) = Ok (statement.Interface name)
 
--- some statement
-abbrev pub said : Judged Statement → Judged (Option Statement)
-said judged = judged >>= λ s. Ok (Some s)
+-- what a line says whose first word is a keyword, by that word and the others
+abbrev pub keyword_says : Declared → List ℕ → List (List ℕ) → Option (Judged Statement)
+keyword_says declared word words =
+    if bytes_eq word (codes "interface") then Some (interface_line words) else
+    (if bytes_eq word (codes "access-list") then Some (list_line declared words) else
+    (if bytes_eq word (codes "ip") then Some (ip_line declared words) else
+    (if bytes_eq word (codes "no") then Some (no_line declared words) else
+    None)))
+
+-- the same, or what another line says, by its first word and all of its words
+abbrev pub said_or_other : Declared → Option (Judged Statement) → List ℕ → List (List ℕ) → Judged (Option Statement)
+said_or_other declared (Some judged) word words = judged >>= λ s. Ok (Some s)
+said_or_other declared None word words = other_line declared declared.section word words
 
 -- a comment's first word begins with `!`
 abbrev pub is_comment : List ℕ → Bool
@@ -218,12 +246,7 @@ is_comment (b ∷ bs) = b == 33
 abbrev pub words_say : Declared → List (List ℕ) → Judged (Option Statement)
 words_say declared [] = Ok None
 words_say declared (word ∷ words) =
-    if is_comment word then Ok None else
-    (if bytes_eq word (codes "interface") then said (interface_line words) else
-    (if bytes_eq word (codes "access-list") then said (list_line declared words) else
-    (if bytes_eq word (codes "ip") then said (ip_line declared words) else
-    (if bytes_eq word (codes "no") then said (no_line declared words) else
-    other_line declared declared.section word words))))
+    if is_comment word then Ok None else said_or_other declared (keyword_says declared word words) word (word ∷ words)
 
 -- what a line declares after lines that declare this
 unfoldable pub line_says : Declared → List ℕ → Judged (Option Statement)

@@ -7,3 +7,4 @@ pub mod Adding
 pub mod Judging
 pub mod Reading
 pub mod Answers
+pub mod Lines

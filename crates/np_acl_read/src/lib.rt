@@ -3,11 +3,17 @@
 
 mod config;
 mod declared;
+mod entry;
 mod fault;
 mod groups;
 mod line_error;
+mod lines;
+mod list_entries;
 mod numbered;
+mod reading;
 mod statement;
+mod words;
 
 pub use config::{Config, Group, Lists, Way, empty_config};
 pub use fault::{ConfigError, ConfigFault, ConfigWhy};
+pub use reading::read_config;

@@ -1,0 +1,4 @@
+pub mod OptionLaws
+pub mod PortLaws
+pub mod TernaryLaws
+pub mod WordLaws

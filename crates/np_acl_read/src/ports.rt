@@ -40,6 +40,16 @@ fn is_port(tcp: bool, word: &[u8]) -> bool
     is_numeral(word) || port_of(word, tcp).is_some()
 }
 
+/// One more port where there are so many.
+fn one_more(tcp: bool, count: usize, word: &[u8]) -> Result<u16, LineError>
+    ensures { Gives result (judging.one_more tcp count word.now) }
+{
+    if count == PORT_LIMIT {
+        return Err(LineError::Faulty(ConfigWhy::BadEntry));
+    }
+    port_named(tcp, word)
+}
+
 /// One port to ten.
 fn ports<'a>(
     alloc: Global,
@@ -56,10 +66,7 @@ fn ports<'a>(
         if !is_port(tcp, word) {
             return Ok((ports, left));
         }
-        if ports.len() == PORT_LIMIT {
-            return Err(LineError::Faulty(ConfigWhy::BadEntry));
-        }
-        ports.push(port_named(tcp, word)?)?;
+        ports.push(one_more(tcp, ports.len(), word)?)?;
         left = rest;
     }
     Ok((ports, left))

@@ -131,15 +131,18 @@ pub fn any_protocol() -> Span
     span_from(0, 255)
 }
 
+/// Whether a connection is established or not.
+pub fn any_flag() -> Span
+    ensures { result ≡ tested.any_flag }
+{
+    span_from(0, 1)
+}
+
 /// The flag of an entry that asks for established connections, or doesn't ask.
 pub fn flag(established: bool) -> Span
     ensures { result ≡ tested.flag_test established }
 {
-    if established {
-        only(1)
-    } else {
-        span_from(0, 1)
-    }
+    if established { only(1) } else { any_flag() }
 }
 
 /// The numbers that agree with an address on each bit that isn't wild.

@@ -68,16 +68,17 @@ port_in tcp words = word_in words >>= λ word. port_of tcp word.0 >>= λ port. O
 abbrev pub is_port : Bool → List ℕ → Bool
 is_port tcp word = is_numeral word || is_some (tables.port_of word tcp)
 
--- one more port where there are so many, in front of those behind it
-abbrev pub one_more : Bool → ℕ → List ℕ → Read (List ℕ) → Read (List ℕ)
-one_more tcp count word more =
-    if count == 10 then Err why.BadEntry else (port_of tcp word >>= λ port. more >>= λ ports. Ok (port ∷ ports.0, ports.1))
+-- one more port where there are so many
+abbrev pub one_more : Bool → ℕ → List ℕ → Judged ℕ
+one_more tcp count word = if count == 10 then Err why.BadEntry else port_of tcp word
 
 -- the ports that follow others, of which there are so many; there may be ten in all
 abbrev pub more_ports : Bool → ℕ → List (List ℕ) → Read (List ℕ)
 more_ports tcp count [] = Ok ([], [])
 more_ports tcp count (word ∷ words) =
-    if is_port tcp word then one_more tcp count word (more_ports tcp (count + 1) words) else Ok ([], word ∷ words)
+    if is_port tcp word
+    then (one_more tcp count word >>= λ port. more_ports tcp (count + 1) words >>= λ ports. Ok (port ∷ ports.0, ports.1))
+    else Ok ([], word ∷ words)
 
 -- one port to ten
 unfoldable pub ports_in : Bool → List (List ℕ) → Read (List ℕ)
@@ -154,23 +155,28 @@ message_or_option word (Some message) words = Ok ((only message.0 ∷ [], named_
 message_or_option word None words =
     if is_log word || is_unsupported word then Ok ((any_number ∷ [], any_number ∷ []), word ∷ words) else Err why.UnknownName
 
+-- the type by its number, and the code behind it
+abbrev pub message_numbers : List ℕ → List (List ℕ) → Read (List Span × List Span)
+message_numbers word words = octet_of word >>= λ type. code_in words >>= λ code. Ok ((only type ∷ [], code.0), code.1)
+
 -- the types and codes that stand here, and all of them where none do
 unfoldable pub message_tests : List (List ℕ) → Read (List Span × List Span)
 message_tests [] = Ok ((any_number ∷ [], any_number ∷ []), [])
-message_tests (word ∷ words) =
-    if is_numeral word
-    then (octet_of word >>= λ type. code_in words >>= λ code. Ok ((only type ∷ [], code.0), code.1))
-    else message_or_option word (tables.icmp_of word) words
+message_tests (word ∷ words) = if is_numeral word then message_numbers word words else message_or_option word (tables.icmp_of word) words
 
 -- ---- options
 
--- whether the words at the end of an entry ask for an established connection; where tcp is false they can't
+-- whether an option asks for an established connection; where tcp is false none can
+abbrev pub option_of : Bool → List ℕ → Judged Bool
+option_of tcp word =
+    if is_log word then Ok false else
+    (if tcp && bytes_eq word (codes "established") then Ok true else
+    Err (fault_at word why.BadEntry))
+
+-- whether one of the options at the end of an entry does
 abbrev pub options_of : Bool → List (List ℕ) → Judged Bool
 options_of tcp [] = Ok false
-options_of tcp (word ∷ words) =
-    if is_log word then options_of tcp words else
-    (if tcp && bytes_eq word (codes "established") then (options_of tcp words >>= λ more. Ok true) else
-    Err (fault_at word why.BadEntry))
+options_of tcp (word ∷ words) = option_of tcp word >>= λ one. options_of tcp words >>= λ more. Ok (one || more)
 
 -- ---- entries
 
@@ -212,10 +218,14 @@ source_from word words =
     (if bytes_eq word (codes "host") then host_in words else
     (address_in word >>= λ address. Ok (host_or_wildcard address words)))
 
+-- `any`, `host` and an address, an address, or an address and a wildcard
+unfoldable pub source_in : List (List ℕ) → Read Ternary
+source_in words = word_in words >>= λ word. source_from word.0 word.1
+
 -- a standard entry: its source, and options
 unfoldable pub standard_entry : Bool → List (List ℕ) → Judged Entry
 standard_entry permit words =
-    word_in words >>= λ word. source_from word.0 word.1 >>= λ src. options_of false src.1 >>= λ established.
+    source_in words >>= λ src. options_of false src.1 >>= λ established.
     Ok (record {
       permit = permit;
       proto = any_protocol;

@@ -1,6 +1,7 @@
 //! A device's configuration: its access lists and groups, and how they are read.
 #![tactic(auto)]
 
+mod addresses;
 mod config;
 mod declared;
 mod entry;
@@ -9,8 +10,12 @@ mod groups;
 mod line_error;
 mod lines;
 mod list_entries;
+mod messages;
 mod numbered;
+mod options;
+mod ports;
 mod reading;
+mod spans;
 mod statement;
 mod words;
 

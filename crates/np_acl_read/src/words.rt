@@ -1,7 +1,8 @@
 //! Single words of a configuration.
 
 ghost use Rattle.std.specs.Prelude.{◌≡◌, IfOk, IfErr, Ok};
-ghost use Rattle.std.specs.List.{list_any};
+ghost use Rattle.std.specs.Char.{is_ascii_digit};
+ghost use Rattle.std.specs.List.{list_all, list_any};
 ghost use Rattle.std.specs.Str.{bytes_eq};
 ghost use Rattle.np_text.specs.Numbers.{is_numeral};
 ghost use Rattle.np_acl_read.specs.Answers.{Gives, StopsAs, texts};
@@ -74,11 +75,19 @@ pub fn next_word<'a>(words: &'a [&'a [u8]]) -> Result<(&'a [u8], &'a [&'a [u8]])
     Ok((first, rest))
 }
 
+/// Whether each byte is a decimal digit.
+fn are_digits(bytes: &[u8]) -> bool
+    ensures { result ≡ list_all is_ascii_digit bytes.now }
+{
+    bytes.iter().all(|byte| byte.is_ascii_digit())
+}
+
 /// Whether a word is a number: one decimal digit or more.
+#[tactic(auto, using(crate::proofs::WordLaws::all_digits))]
 pub fn is_numeral(word: &[u8]) -> bool
     ensures { result ≡ is_numeral word.now }
 {
-    !word.is_empty() && word.iter().all(|byte| byte.is_ascii_digit())
+    !word.is_empty() && are_digits(word)
 }
 
 /// The fault of a word that is no number in the range of its place, and no name.

@@ -1,6 +1,6 @@
 -- What is declared grows by one statement at a time.
-use Rattle.std.proofs.Common.{◌≡◌, ℕ, ◌+◌, Bool, true, false, ◌||◌, cond, List, [], ◌∷◌, ◌++◌, length, map, Option, Some, None, refl, sym, ap, subst, ◌∙◌, arith}
-use Rattle.std.specs.Prelude.{unwrap_or, fold}
+use Rattle.std.proofs.Common.{◌≡◌, ℕ, ◌+◌, Bool, true, false, ◌||◌, List, [], ◌∷◌, ◌++◌, length, map, Option, Some, None, refl, sym, ap, subst, ◌∙◌, arith}
+use Rattle.std.specs.Prelude.{fold}
 use Rattle.std.specs.List.{AllByRecursion, IsDistinct, filter_map, list_any}
 use Rattle.std.specs.Map.{keys_of}
 use Rattle.std.specs.Str.{bytes_eq}
@@ -17,7 +17,7 @@ use Rattle.np_acl_read.specs.declared.declared.Section.TheVariants as sections
 use Rattle.np_acl_read.specs.declared.statement.NumberedEntry.{NumberedEntry}
 use Rattle.np_acl_read.specs.declared.statement.Statement.{Statement}
 use Rattle.np_acl_read.specs.declared.statement.Statement.TheVariants as statement
-use Rattle.np_acl_read.specs.Adding.{Numbered, added, added_if, entries_named, with_entry_at, with_list}
+use Rattle.np_acl_read.specs.Adding.{added, added_if, entries_named, with_entry_at, with_list}
 use Rattle.np_acl_read.specs.Declaring.{declared_by, section_after, section_of, list_in, with_name, names_of, entry_in, entry_of_list, with_entry, in_order, entries_of, lists_of, group_in, with_group, groups_of}
 use Rattle.np_acl_read.specs.Reading.{and_one}
 
@@ -187,7 +187,7 @@ lists_kept before s no_list no_entry = rw (none_more list_in before s no_list, n
 lists_opened : (before : List Statement) (s : Statement) (name : List ℕ) → list_in s ≡ Some name → entry_in s ≡ None → lists_of (before ++ s ∷ []) ≡ with_list (lists_of before) name
 lists_opened before s name list no_entry =
     rw (none_more entry_in before s no_entry, names_more before s name list)
-        (made_with_list (entries_of before) (names_of before) name (no_entries name before))
+    (made_with_list (entries_of before) (names_of before) name (no_entries name before))
 
 -- and one with an entry adds it
 lists_added : (before : List Statement) (s : Statement) (entry : NumberedEntry) → list_in s ≡ Some entry.list → entry_in s ≡ Some entry → lists_of (before ++ s ∷ []) ≡ with_entry_at (lists_of before) entry.list (entry.number, entry.entry)
@@ -207,7 +207,7 @@ section_more before s = fold_more section_after sections.Closed before s
 groups_more : (before : List Statement) (interface : List ℕ) (inward : Bool) (list : List ℕ) → groups_of (before ++ statement.Group interface inward list ∷ []) ≡ with_group (groups_of before) ((interface, inward), list)
 groups_more before interface inward list =
     rw (one_more group_in before (statement.Group interface inward list) ((interface, inward), list) refl)
-        (fold_more with_group [] (filter_map group_in before) ((interface, inward), list))
+    (fold_more with_group [] (filter_map group_in before) ((interface, inward), list))
 
 declared_one_more : (before : List Statement) (s : Statement) → declared_by (before ++ s ∷ []) ≡ added (declared_by before) s
 unfolding declared_by

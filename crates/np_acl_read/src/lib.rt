@@ -5,7 +5,6 @@ mod config;
 mod declared;
 mod fault;
 mod groups;
-mod laws;
 mod line_error;
 mod numbered;
 mod statement;

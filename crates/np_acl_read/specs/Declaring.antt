@@ -1,5 +1,5 @@
 -- What the statements of a configuration declare.
-use Rattle.std.specs.Prelude.{◌≡◌, ℕ, Bool, ◌&&◌,  List, [], ◌∷◌, ◌++◌, length, map, fold, Option, Some, None, if◌then◌else◌}
+use Rattle.std.specs.Prelude.{ℕ, Bool, ◌&&◌, List, [], ◌∷◌, ◌++◌, length, map, fold, Option, Some, None, if◌then◌else◌}
 use Rattle.std.specs.List.{filter_map, list_any}
 use Rattle.std.specs.BTreeMap.{insert_entry}
 use Rattle.indexmap.specs.IndexMap.{insert_entry as put}

@@ -43,6 +43,7 @@ impl NumberedEntries {
     }
 
     /// Whether an entry has this number.
+    #[tactic(auto, using(crate::proofs::NumberedLaws::found_is_any))]
     pub fn has(&self, number: u32) -> bool
         ensures { result ≡ list_any (nat_eq number) (map (λ entry. entry.0) self.now) }
     {
@@ -50,6 +51,7 @@ impl NumberedEntries {
     }
 
     /// The greatest number; 0 where there is no entry.
+    #[tactic(auto, using(crate::proofs::NumberedLaws::greatest_is))]
     pub fn greatest(&self) -> u32
         ensures { result ≡ fold max 0 (map (λ entry. entry.0) self.now) }
     {
@@ -140,6 +142,7 @@ impl NumberedLists {
     }
 
     /// Makes a list, where it isn't there.
+    #[tactic(auto, using(crate::proofs::NumberedLaws::open_there, crate::proofs::NumberedLaws::open_new))]
     pub fn open(&mut self, alloc: Global, name: &Name) -> Result<(), AllocError>
         ensures { OnOk result (self.new ≡ with_list self.old name.now) }
     {
@@ -150,6 +153,7 @@ impl NumberedLists {
     }
 
     /// Adds an entry to a list, which is made where it isn't there.
+    #[tactic(auto, using(crate::proofs::NumberedLaws::put_twice))]
     pub fn add(
         &mut self,
         alloc: Global,
@@ -165,6 +169,7 @@ impl NumberedLists {
     }
 
     /// The lists of entries without their numbers.
+    #[tactic(auto, using(crate::proofs::NumberedLaws::next_is_new))]
     pub fn into_lists(self, alloc: Global) -> Result<Lists, AllocError>
         ensures { IfOk result (λ lists. lists ≡ declaring.plain_lists self) }
     {

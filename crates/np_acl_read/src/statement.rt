@@ -18,7 +18,10 @@ pub enum Statement {
     /// `interface NAME ..`: the section of an interface.
     Interface(Name),
     /// `ip access-list extended NAME` or `ip access-list standard NAME`: the section of a list.
-    Section { list: Name, extended: bool },
+    Section {
+        list: Name,
+        extended: bool,
+    },
     /// `access-list N remark ..`
     Remark(Name),
     /// `access-list N ..` with an entry.

@@ -1,5 +1,4 @@
 -- Statements that need no room.
-use Rattle.std.proofs.Common.{List, ℕ}
 use Rattle.np_acl_read.specs.declared.declared.Declared.{Declared}
 use Rattle.np_acl_read.specs.declared.statement.Statement.{Statement}
 use Rattle.np_acl_read.specs.declared.statement.Statement.TheVariants as statement

@@ -1,5 +1,5 @@
 -- Patterns that are made of numbers.
-use Rattle.std.proofs.Common.{◌≡◌, ℕ, ◌<◌, ◌^◌, ◌%◌, ◌-◌, bit_and, refl, ap, subst, ◌∙◌, arith}
+use Rattle.std.proofs.Common.{◌≡◌, ℕ, ◌<◌, ◌^◌, ◌%◌, ◌-◌, bit_and, ap, subst, ◌∙◌, arith}
 use Rattle.std.proofs.Props.{props}
 use Rattle.np_space.specs.declared.patterns.Ternary.{Ternary}
 use Rattle.np_acl_read.specs.Spans.{pattern}

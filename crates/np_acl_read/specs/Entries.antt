@@ -1,5 +1,5 @@
 -- The words of an entry behind `permit` or `deny`: what it tests, or the first fault in their order.
-use Rattle.std.specs.Prelude.{◌≡◌, ℕ, ◌+◌, Bool, true, false, ◌&&◌, ◌||◌, not, ◌==◌, nat_le, List, [], ◌∷◌, ◌++◌, map, is_some, Option, Some, None, Result, Ok, Err, codes, if◌then◌else◌}
+use Rattle.std.specs.Prelude.{ℕ, ◌+◌, Bool, true, false, ◌&&◌, ◌||◌, ◌==◌, nat_le, List, [], ◌∷◌, map, is_some, Option, Some, None, Ok, Err, codes, if◌then◌else◌}
 use Rattle.std.specs.Option.{ok_or}
 use Rattle.std.specs.Str.{bytes_eq}
 use Rattle.np_text.specs.Addresses.{address_of}
@@ -9,7 +9,6 @@ use Rattle.np_space.specs.declared.spans.Span.{Span}
 use Rattle.np_acl.specs.declared.entries.Entry.{Entry}
 use Rattle.np_acl.specs.Tables as tables
 use Rattle.np_acl.specs.Tables.{span_from}
-use Rattle.np_acl_read.specs.declared.fault.ConfigWhy.{ConfigWhy}
 use Rattle.np_acl_read.specs.declared.fault.ConfigWhy.TheVariants as why
 use Rattle.np_acl_read.specs.Spans.{any_address, any_flag, any_number, any_protocol, all_but, above, below, flag_test, host, only, pattern}
 use Rattle.np_acl_read.specs.Why.{Judged, ◌>>=◌, Read}

@@ -1,9 +1,9 @@
 -- How a line is judged against what the lines before it declare.
-use Rattle.std.specs.Prelude.{◌≡◌, ℕ, ◌+◌, Bool, true, false, ◌&&◌, ◌||◌, not, ◌==◌, nat_eq, nat_le, nat_lt, max, fold, List, [], ◌∷◌, map, is_some, Option, Some, None, option_and_then, option_map, Result, Ok, Err, codes, if◌then◌else◌}
+use Rattle.std.specs.Prelude.{ℕ, ◌+◌, Bool, true, false, ◌&&◌, ◌||◌, ◌==◌, nat_eq, nat_le, nat_lt, max, fold, List, [], ◌∷◌, map, is_some, Option, Some, None, option_and_then, option_map, Ok, Err, codes, if◌then◌else◌}
 use Rattle.std.specs.Fmt.{decimal}
 use Rattle.std.specs.List.{list_any}
 use Rattle.std.specs.Option.{option_map_or}
-use Rattle.std.specs.Str.{all_ascii_digits, bytes_eq}
+use Rattle.std.specs.Str.{bytes_eq}
 use Rattle.np_text.specs.Numbers.{is_numeral, number_of}
 use Rattle.np_text.specs.Words.{words_of}
 use Rattle.np_acl.specs.declared.entries.Entry.{Entry}

@@ -1,9 +1,8 @@
 -- Single words of a configuration.
-use Rattle.std.specs.Prelude.{ℕ, Bool, true, false, ◌||◌, nat_le, ◌&&◌, List, [], ◌∷◌, Option, Some, None, Result, Ok, Err, codes, if◌then◌else◌}
+use Rattle.std.specs.Prelude.{ℕ, Bool, true, false, ◌||◌, nat_le, ◌&&◌, List, [], ◌∷◌, Option, Some, None, Ok, Err, codes, if◌then◌else◌}
 use Rattle.std.specs.List.{list_any}
-use Rattle.std.specs.Option.{ok_or}
 use Rattle.std.specs.Str.{bytes_eq}
-use Rattle.np_text.specs.Numbers.{is_numeral, number_of}
+use Rattle.np_text.specs.Numbers.{is_numeral}
 use Rattle.np_acl_read.specs.declared.fault.ConfigWhy.{ConfigWhy}
 use Rattle.np_acl_read.specs.declared.fault.ConfigWhy.TheVariants as why
 use Rattle.np_acl_read.specs.Why.{Judged, Read}

@@ -2,8 +2,7 @@
 
 ghost use Rattle.std.specs.Prelude.{◌≡◌, ◌<◌, [], OnOk};
 ghost use Rattle.np_acl_read.specs.Adding.{Fits, added, entry_limit, with_numbered};
-ghost use Rattle.np_acl_read.specs.Declaring.{closed_list};
-ghost use Rattle.np_acl_read.specs.declared.declared.Section.TheVariants.{Closed};
+ghost use Rattle.np_acl_read.specs.Declaring.{closed_list, declared_by};
 
 use crate::groups::Groups;
 use crate::numbered::NumberedLists;
@@ -31,11 +30,9 @@ pub struct Declared {
 
 impl Declared {
     /// Before any line is read.
+    #[tactic(auto, using(crate::proofs::DeclarationLaws::declared_first))]
     pub fn new(alloc: Global) -> Declared
-        ensures section { result.section ≡ Closed }
-        ensures lists { result.lists ≡ [] }
-        ensures groups { result.groups ≡ [] }
-        ensures entries { result.entries ≡ 0 }
+        ensures { result ≡ declared_by [] }
     {
         Declared {
             section: Section::Closed,

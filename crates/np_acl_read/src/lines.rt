@@ -37,11 +37,7 @@ fn decimal_name(alloc: Global, value: u64) -> Result<Name, AllocError>
 
 /// `access-list N ..`, without its first word. Where N is no list's number it is another line.
 #[tactic(auto, unfolding(crate::specs::Judging::list_line))]
-fn list_line(
-    alloc: Global,
-    declared: &Declared,
-    words: &[&[u8]],
-) -> Result<Statement, LineError>
+fn list_line(alloc: Global, declared: &Declared, words: &[&[u8]]) -> Result<Statement, LineError>
     ensures says { Gives result (judging.list_line declared.now (texts words.now)) }
     ensures fits { IfOk result (λ s. Fits declared.now s) }
 {
@@ -112,11 +108,7 @@ fn group_at(alloc: Global, interface: &Name, words: &[&[u8]]) -> Result<Statemen
 }
 
 /// `ip access-group ..`, by the words behind these two.
-fn group_line(
-    alloc: Global,
-    section: &Section,
-    words: &[&[u8]],
-) -> Result<Statement, LineError>
+fn group_line(alloc: Global, section: &Section, words: &[&[u8]]) -> Result<Statement, LineError>
     ensures says { Gives result (judging.group_line section.now (texts words.now)) }
     ensures free { IfOk result NeedsNoRoom }
 {
@@ -192,8 +184,7 @@ fn in_list(section: &Section) -> bool
 fn is_line_negated(section: &Section, word: &[u8]) -> bool
     ensures { result ≡ judging.is_line_negated section.now word.now }
 {
-    in_list(section)
-        && (is_numeral(word) || action(word).is_some() || word == b"remark".as_slice())
+    in_list(section) && (is_numeral(word) || action(word).is_some() || word == b"remark".as_slice())
 }
 
 /// Whether a word behind `no` and those behind it take away a list or a group.
@@ -334,11 +325,7 @@ fn keyword_line(
 }
 
 /// What a line's words declare. A line without words and a comment declare nothing.
-fn said(
-    alloc: Global,
-    declared: &Declared,
-    words: &[&[u8]],
-) -> Result<Option<Statement>, LineError>
+fn said(alloc: Global, declared: &Declared, words: &[&[u8]]) -> Result<Option<Statement>, LineError>
     ensures says { Gives result (judging.words_say declared.now (texts words.now)) }
     ensures fits { IfOk result (λ said. IfSome said (λ s. Fits declared.now s)) }
 {

@@ -192,4 +192,3 @@ pub fn entry_or_remark(
         None => Err(LineError::Faulty(no_action(word))),
     }
 }
-

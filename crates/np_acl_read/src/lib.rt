@@ -22,3 +22,6 @@ mod words;
 pub use config::{Config, Group, Lists, Way, empty_config};
 pub use fault::{ConfigError, ConfigFault, ConfigWhy};
 pub use reading::read_config;
+
+#[cfg(test)]
+mod tests;

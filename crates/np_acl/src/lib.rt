@@ -4,10 +4,12 @@
 mod entries;
 mod lists;
 mod ports;
+mod tables;
 
 pub use entries::Entry;
 pub use lists::List;
 pub use ports::{PortSpan, Ports};
+pub use tables::{icmp_of, port_of, protocol_of, span_from};
 
 #[cfg(test)]
 mod tests;

@@ -1,0 +1,14 @@
+-- Ports, one behind the other.
+use Rattle.std.proofs.Common.{◌≡◌, ℕ, Bool, List, [], ◌∷◌, ◌++◌, Ok, refl}
+use Rattle.np_acl_read.specs.Entries.{more_ports, port_in, ports_in}
+use Rattle.np_acl_read.specs.Why.{◌>>=◌, Read}
+
+-- ports in front of those that are read
+abbrev pub behind : List ℕ → Read (List ℕ) → Read (List ℕ)
+behind front read = read >>= λ more. Ok (front ++ more.0, more.1)
+
+-- the first port, in front of the others
+pub ports_start : (tcp : Bool) (words : List (List ℕ)) (first : ℕ) (left : List (List ℕ)) → port_in tcp words ≡ Ok (first, left)
+    → behind (first ∷ []) (more_ports tcp 1 left) ≡ ports_in tcp words
+unfolding ports_in
+ports_start tcp words first left read = rw read refl

@@ -1,0 +1,13 @@
+use Rattle.std.proofs.Common.{◌≡◌, ◌++◌}
+use Rattle.std.specs.List.{IsDistinct}
+use Rattle.std.specs.Map.{keys_of}
+use Rattle.std.specs.Str.{bytes_eq}
+use Rattle.np_acl_read.specs.Declaring.{plain_lists}
+use Rattle.np_acl_read.proofs.numbered.NumberedLists.into_lists.Given as goal
+
+-- the lists so far and those that are left are all of them, and no two have the same name
+abbrev pub invariant-loop-name : goal.invariant-loop-name
+invariant-loop-name l = record {
+  all : l.lists ++ plain_lists l.name-iterator ≡ plain_lists l.fn.self;
+  apart : IsDistinct bytes_eq (keys_of l.fn.self);
+}

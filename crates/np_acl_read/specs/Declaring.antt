@@ -1,0 +1,142 @@
+-- What the statements of a configuration declare.
+use Rattle.std.specs.Prelude.{ℕ, Bool, ◌&&◌, List, [], ◌∷◌, ◌++◌, length, map, fold, Option, Some, None, if◌then◌else◌}
+use Rattle.std.specs.List.{filter_map, list_any}
+use Rattle.std.specs.BTreeMap.{insert_entry}
+use Rattle.indexmap.specs.IndexMap.{insert_entry as put}
+use Rattle.std.specs.Ordering.{nat_cmp}
+use Rattle.std.specs.Str.{bytes_eq}
+use Rattle.std.proofs.Math.Bool.{beq}
+use Rattle.np_acl.specs.declared.entries.Entry.{Entry}
+use Rattle.np_acl_read.specs.declared.config.Config.{Config}
+use Rattle.np_acl_read.specs.declared.config.Group.{Group}
+use Rattle.np_acl_read.specs.declared.config.Way.{Way}
+use Rattle.np_acl_read.specs.declared.config.Way.TheVariants as way
+use Rattle.np_acl_read.specs.declared.declared.Declared.{Declared}
+use Rattle.np_acl_read.specs.declared.declared.Section.{Section}
+use Rattle.np_acl_read.specs.declared.declared.Section.TheVariants as sections
+use Rattle.np_acl_read.specs.declared.statement.Statement.{Statement}
+use Rattle.np_acl_read.specs.declared.statement.Statement.TheVariants as statement
+use Rattle.np_acl_read.specs.declared.statement.NumberedEntry.{NumberedEntry}
+
+-- ---- sections
+
+-- another line closes a list's section, and leaves an interface's open
+abbrev pub closed_list : Section → Section
+closed_list sections.Closed = sections.Closed
+closed_list (sections.Interface name) = sections.Interface name
+closed_list (sections.List name extended) = sections.Closed
+
+-- the section that is open after a statement
+abbrev pub section_after : Section → Statement → Section
+section_after before (statement.Interface name) = sections.Interface name
+section_after before (statement.Section list extended) = sections.List list extended
+section_after before (statement.Remark list) = sections.Closed
+section_after before (statement.ListEntry entry) = sections.Closed
+section_after before (statement.SectionEntry entry) = before
+section_after before (statement.Group interface inward list) = before
+section_after before statement.Other = closed_list before
+
+-- the section that statements leave open
+abbrev pub section_of : List Statement → Section
+section_of statements = fold section_after sections.Closed statements
+
+-- ---- lists
+
+-- the list that a statement names, which is there from then on
+abbrev pub list_in : Statement → Option (List ℕ)
+list_in (statement.Interface name) = None
+list_in (statement.Section list extended) = Some list
+list_in (statement.Remark list) = Some list
+list_in (statement.ListEntry entry) = Some entry.list
+list_in (statement.SectionEntry entry) = Some entry.list
+list_in (statement.Group interface inward list) = None
+list_in statement.Other = None
+
+-- names with one more, behind the others, where it isn't there
+abbrev pub with_name : List (List ℕ) → List ℕ → List (List ℕ)
+with_name names name = if list_any (bytes_eq name) names then names else names ++ name ∷ []
+
+-- the names of the lists, in the order in which they first appear
+abbrev pub names_of : List Statement → List (List ℕ)
+names_of statements = fold with_name [] (filter_map list_in statements)
+
+-- the entry that a statement declares
+abbrev pub entry_in : Statement → Option NumberedEntry
+entry_in (statement.Interface name) = None
+entry_in (statement.Section list extended) = None
+entry_in (statement.Remark list) = None
+entry_in (statement.ListEntry entry) = Some entry
+entry_in (statement.SectionEntry entry) = Some entry
+entry_in (statement.Group interface inward list) = None
+entry_in statement.Other = None
+
+-- an entry with its number, where it is one of this list
+abbrev pub entry_of_list : List ℕ → NumberedEntry → Option (ℕ × Entry)
+entry_of_list name entry = if bytes_eq name entry.list then Some (entry.number, entry.entry) else None
+
+-- entries by their numbers, with one more at its place
+abbrev pub with_entry : List (ℕ × Entry) → ℕ × Entry → List (ℕ × Entry)
+with_entry entries entry = insert_entry nat_cmp entries entry.0 entry.1
+
+-- entries in the order of their numbers
+abbrev pub in_order : List (ℕ × Entry) → List (ℕ × Entry)
+in_order entries = fold with_entry [] entries
+
+-- the entries of a list, in the order of their numbers
+abbrev pub entries_of : List Statement → List ℕ → List (ℕ × Entry)
+entries_of statements name = in_order (filter_map (entry_of_list name) (filter_map entry_in statements))
+
+-- the lists, each with its entries
+abbrev pub lists_of : List Statement → List (List ℕ × List (ℕ × Entry))
+lists_of statements = map (λ name. (name, entries_of statements name)) (names_of statements)
+
+-- ---- groups
+
+-- the list that a statement applies, at an interface, inward or outward
+abbrev pub group_in : Statement → Option ((List ℕ × Bool) × List ℕ)
+group_in (statement.Interface name) = None
+group_in (statement.Section list extended) = None
+group_in (statement.Remark list) = None
+group_in (statement.ListEntry entry) = None
+group_in (statement.SectionEntry entry) = None
+group_in (statement.Group interface inward list) = Some ((interface, inward), list)
+group_in statement.Other = None
+
+-- the same interface and way
+abbrev pub same_slot : List ℕ × Bool → List ℕ × Bool → Bool
+same_slot x y = bytes_eq x.0 y.0 && beq x.1 y.1
+
+-- the groups with one more: the list that is applied last at an interface and way counts
+abbrev pub with_group : List ((List ℕ × Bool) × List ℕ) → (List ℕ × Bool) × List ℕ → List ((List ℕ × Bool) × List ℕ)
+with_group groups group = put same_slot groups group.0 group.1
+
+-- the list that counts at each interface and way, in the order in which they first appear
+abbrev pub groups_of : List Statement → List ((List ℕ × Bool) × List ℕ)
+groups_of statements = fold with_group [] (filter_map group_in statements)
+
+-- ---- the whole
+
+-- what statements declare
+unfoldable pub declared_by : List Statement → Declared
+declared_by statements = record {
+  section = section_of statements;
+  lists = lists_of statements;
+  groups = groups_of statements;
+  entries = length (filter_map entry_in statements);
+}
+
+-- a way by whether it is the one in
+abbrev pub way_of : Bool → Way
+way_of inward = if inward then way.Inward else way.Outward
+
+-- lists of entries without their numbers
+abbrev pub plain_lists : List (List ℕ × List (ℕ × Entry)) → List (List ℕ × List Entry)
+plain_lists lists = map (λ list. (list.0, map (λ entry. entry.1) list.1)) lists
+
+-- groups as a configuration has them
+abbrev pub plain_groups : List ((List ℕ × Bool) × List ℕ) → List Group
+plain_groups groups = map (λ group. record { interface = group.0.0; way = way_of group.0.1; list = group.1 }) groups
+
+-- the configuration of what is declared
+abbrev pub config_with : Declared → Config
+config_with declared = record { lists = plain_lists declared.lists; groups = plain_groups declared.groups }

@@ -1,0 +1,10 @@
+pub mod Why
+pub mod Words
+pub mod Spans
+pub mod Entries
+pub mod Declaring
+pub mod Adding
+pub mod Judging
+pub mod Reading
+pub mod Answers
+pub mod Lines

@@ -1,0 +1,97 @@
+//! What the lines of a configuration declare.
+
+ghost use Rattle.std.specs.Prelude.{◌≡◌, ◌<◌, [], OnOk};
+ghost use Rattle.np_acl_read.specs.Adding.{Fits, added, entry_limit, with_numbered};
+ghost use Rattle.np_acl_read.specs.Declaring.{closed_list, declared_by};
+
+use crate::groups::Groups;
+use crate::numbered::NumberedLists;
+use crate::statement::{NumberedEntry, Statement};
+use np_text::Name;
+use std::alloc::{AllocError, Global};
+
+/// The section that is open at a line.
+#[derive(Drop)]
+pub enum Section {
+    Closed,
+    Interface(Name),
+    List { name: Name, extended: bool },
+}
+
+/// What lines declare.
+#[derive(Drop)]
+pub struct Declared {
+    pub section: Section,
+    pub lists: NumberedLists,
+    pub groups: Groups,
+    /// How many entries the lists have together.
+    pub entries: usize,
+}
+
+impl Declared {
+    /// Before any line is read.
+    #[tactic(auto, using(crate::proofs::DeclarationLaws::declared_first))]
+    pub fn new(alloc: Global) -> Declared
+        ensures { result ≡ declared_by [] }
+    {
+        Declared {
+            section: Section::Closed,
+            lists: NumberedLists::new(alloc),
+            groups: Groups::new(alloc),
+            entries: 0,
+        }
+    }
+
+    /// Adds an entry to its list.
+    fn add_entry(&mut self, alloc: Global, entry: NumberedEntry) -> Result<(), AllocError>
+        requires { self.old.entries < entry_limit }
+        ensures { OnOk result (self.new ≡ with_numbered self.old entry) }
+    {
+        self.lists
+            .add(alloc, entry.list, entry.number, entry.entry)?;
+        self.entries += 1;
+        Ok(())
+    }
+
+    /// Closes the section of a list.
+    fn close_list(&mut self)
+        ensures { self.new ≡ record self.old { section = closed_list self.old.section } }
+    {
+        if let Section::List { .. } = self.section {
+            self.section = Section::Closed;
+        }
+    }
+
+    /// Adds what a statement declares.
+    pub fn add(&mut self, alloc: Global, statement: Statement) -> Result<(), AllocError>
+        requires { Fits self.old statement }
+        ensures { OnOk result (self.new ≡ added self.old statement) }
+    {
+        match statement {
+            Statement::Interface(name) => self.section = Section::Interface(name),
+            Statement::Section { list, extended } => {
+                self.lists.open(alloc, &list)?;
+                self.section = Section::List {
+                    name: list,
+                    extended,
+                };
+            }
+            Statement::Remark(list) => {
+                self.lists.open(alloc, &list)?;
+                self.section = Section::Closed;
+            }
+            Statement::ListEntry(entry) => {
+                self.add_entry(alloc, entry)?;
+                self.section = Section::Closed;
+            }
+            Statement::SectionEntry(entry) => self.add_entry(alloc, entry)?,
+            Statement::Group {
+                interface,
+                inward,
+                list,
+            } => self.groups.apply(interface, inward, list)?,
+            Statement::Other => self.close_list(),
+        }
+        Ok(())
+    }
+}

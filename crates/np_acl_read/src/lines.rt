@@ -1,0 +1,377 @@
+//! What a line of a configuration declares.
+
+ghost use Rattle.std.specs.Prelude.{◌≡◌, ◌<◌, IfOk, IfErr, IfSome, OnOk, Ok};
+ghost use Rattle.std.specs.Option.{option_copied};
+ghost use Rattle.std.specs.Fmt.{decimal};
+ghost use Rattle.np_acl_read.specs.Adding.{Fits, NeedsNoRoom, entry_limit};
+ghost use Rattle.np_acl_read.specs.Answers.{Gives, GivesIf, IsFaultOf, texts};
+ghost use Rattle.np_acl_read.specs.Judging as judging;
+ghost use Rattle.np_acl_read.specs.Lines.{after_line};
+
+use crate::declared::{Declared, Section};
+use crate::fault::{ConfigError, ConfigFault, ConfigWhy};
+use crate::line_error::LineError;
+use crate::list_entries::entry_or_remark;
+use crate::statement::{NumberedEntry, Statement};
+use crate::words::{action, is_inward, is_numeral, kind_of_number};
+use np_text::{Name, number, put_number, word_list};
+use std::alloc::{AllocError, Global};
+
+/// The number of an access list, and whether it is extended.
+fn list_number(word: &[u8]) -> Option<(u64, bool)>
+    ensures { result ≡ judging.list_number word.now }
+{
+    let value = number(word, 2699)?;
+    let extended = kind_of_number(value)?;
+    Some((value, extended))
+}
+
+/// A number in its shortest form, as a name.
+fn decimal_name(alloc: Global, value: u64) -> Result<Name, AllocError>
+    ensures { IfOk result (λ name. name ≡ decimal value) }
+{
+    let mut text = Vec::new(alloc);
+    put_number(&mut text, value)?;
+    Name::of(alloc, text.as_slice())
+}
+
+/// `access-list N ..`, without its first word. Where N is no list's number it is another line.
+#[tactic(auto, unfolding(crate::specs::Judging::list_line))]
+fn list_line(alloc: Global, declared: &Declared, words: &[&[u8]]) -> Result<Statement, LineError>
+    ensures says { Gives result (judging.list_line declared.now (texts words.now)) }
+    ensures fits { IfOk result (λ s. Fits declared.now s) }
+{
+    let [word, words @ ..] = words else {
+        return Ok(Statement::Other);
+    };
+    let Some((value, extended)) = list_number(word) else {
+        return Ok(Statement::Other);
+    };
+    let list = decimal_name(alloc, value)?;
+    match entry_or_remark(alloc, declared, &list, extended, None, words)? {
+        Some(entry) => Ok(Statement::ListEntry(entry)),
+        None => Ok(Statement::Remark(list)),
+    }
+}
+
+/// `ip access-list ..`, by the words behind the list's kind.
+#[tactic(auto, unfolding(crate::specs::Judging::open_list))]
+fn open_list(alloc: Global, extended: bool, words: &[&[u8]]) -> Result<Statement, LineError>
+    ensures says { Gives result (judging.open_list extended (texts words.now)) }
+    ensures free { IfOk result NeedsNoRoom }
+{
+    match words {
+        [name] => Ok(Statement::Section {
+            list: Name::of(alloc, name)?,
+            extended,
+        }),
+        _ => Err(LineError::Faulty(ConfigWhy::BadEntry)),
+    }
+}
+
+/// `ip access-list ..`, by its third word and the others.
+#[tactic(auto, unfolding(crate::specs::Judging::access_list))]
+fn access_list(alloc: Global, words: &[&[u8]]) -> Result<Statement, LineError>
+    ensures says { Gives result (judging.access_list (texts words.now)) }
+    ensures free { IfOk result NeedsNoRoom }
+{
+    let [word, words @ ..] = words else {
+        return Ok(Statement::Other);
+    };
+    if *word == b"extended".as_slice() {
+        return open_list(alloc, true, words);
+    }
+    if *word == b"standard".as_slice() {
+        return open_list(alloc, false, words);
+    }
+    Ok(Statement::Other)
+}
+
+/// `ip access-group ..` in the section of an interface, by the words behind these two.
+#[tactic(auto, unfolding(crate::specs::Judging::group_at))]
+fn group_at(alloc: Global, interface: &Name, words: &[&[u8]]) -> Result<Statement, LineError>
+    ensures says { Gives result (judging.group_at interface.now (texts words.now)) }
+    ensures free { IfOk result NeedsNoRoom }
+{
+    let [list, word, more @ ..] = words else {
+        return Err(LineError::Faulty(ConfigWhy::BadEntry));
+    };
+    let inward = is_inward(word)?;
+    if !more.is_empty() {
+        return Err(LineError::Faulty(ConfigWhy::Unsupported));
+    }
+    Ok(Statement::Group {
+        interface: interface.copy(alloc)?,
+        inward,
+        list: Name::of(alloc, list)?,
+    })
+}
+
+/// `ip access-group ..`, by the words behind these two.
+fn group_line(alloc: Global, section: &Section, words: &[&[u8]]) -> Result<Statement, LineError>
+    ensures says { Gives result (judging.group_line section.now (texts words.now)) }
+    ensures free { IfOk result NeedsNoRoom }
+{
+    match section {
+        Section::Interface(name) => group_at(alloc, name, words),
+        Section::Closed => Err(LineError::Faulty(ConfigWhy::BadEntry)),
+        Section::List { .. } => Err(LineError::Faulty(ConfigWhy::BadEntry)),
+    }
+}
+
+/// A line whose first word is `ip`, by the others.
+#[tactic(auto, using(crate::proofs::RoomLaws::fits_anywhere), unfolding(crate::specs::Judging::ip_line))]
+fn ip_line(alloc: Global, declared: &Declared, words: &[&[u8]]) -> Result<Statement, LineError>
+    ensures says { Gives result (judging.ip_line declared.now (texts words.now)) }
+    ensures fits { IfOk result (λ s. Fits declared.now s) }
+{
+    let [word, words @ ..] = words else {
+        return Ok(Statement::Other);
+    };
+    if *word == b"access-list".as_slice() {
+        return access_list(alloc, words);
+    }
+    if *word == b"access-group".as_slice() {
+        return group_line(alloc, &declared.section, words);
+    }
+    Ok(Statement::Other)
+}
+
+/// Whether words begin with the kind of a named list.
+fn is_kind(words: &[&[u8]]) -> bool
+    ensures { result ≡ judging.is_kind (texts words.now) }
+{
+    match words {
+        [kind, ..] => *kind == b"extended".as_slice() || *kind == b"standard".as_slice(),
+        [] => false,
+    }
+}
+
+/// Whether words behind `no ip` take away a list or a group.
+fn is_ip_negated(words: &[&[u8]]) -> bool
+    ensures { result ≡ judging.is_ip_negated (texts words.now) }
+{
+    match words {
+        [word, words @ ..] => {
+            *word == b"access-group".as_slice()
+                || (*word == b"access-list".as_slice() && is_kind(words))
+        }
+        [] => false,
+    }
+}
+
+/// Whether words behind `no access-list` take away a list.
+fn is_list_negated(words: &[&[u8]]) -> bool
+    ensures { result ≡ judging.is_list_negated (texts words.now) }
+{
+    match words {
+        [word, ..] => list_number(word).is_some(),
+        [] => false,
+    }
+}
+
+fn in_list(section: &Section) -> bool
+    ensures { result ≡ judging.in_list section.now }
+{
+    match section {
+        Section::List { .. } => true,
+        Section::Closed => false,
+        Section::Interface(_) => false,
+    }
+}
+
+/// Whether a word behind `no` takes away a line of the list whose section is open.
+fn is_line_negated(section: &Section, word: &[u8]) -> bool
+    ensures { result ≡ judging.is_line_negated section.now word.now }
+{
+    in_list(section) && (is_numeral(word) || action(word).is_some() || word == b"remark".as_slice())
+}
+
+/// Whether a word behind `no` and those behind it take away a list or a group.
+fn takes_away(word: &[u8], words: &[&[u8]]) -> bool
+    ensures { result ≡ judging.takes_away word.now (texts words.now) }
+{
+    (word == b"access-list".as_slice() && is_list_negated(words))
+        || (word == b"ip".as_slice() && is_ip_negated(words))
+}
+
+/// Whether words behind `no` take away what a list or a group says.
+fn is_negated(section: &Section, words: &[&[u8]]) -> bool
+    ensures { result ≡ judging.is_negated section.now (texts words.now) }
+{
+    match words {
+        [word, words @ ..] => takes_away(word, words) || is_line_negated(section, word),
+        [] => false,
+    }
+}
+
+/// A line whose first word is `no`, by the others.
+fn no_line(declared: &Declared, words: &[&[u8]]) -> Result<Statement, LineError>
+    ensures says { Gives result (judging.no_line declared.now (texts words.now)) }
+    ensures fits { IfOk result (λ s. Fits declared.now s) }
+{
+    if is_negated(&declared.section, words) {
+        Err(LineError::Faulty(ConfigWhy::Negated))
+    } else {
+        Ok(Statement::Other)
+    }
+}
+
+/// Whether a word begins a line of the list whose section is open.
+fn begins_list_line(word: &[u8]) -> bool
+    ensures { result ≡ judging.begins_list_line word.now }
+{
+    is_numeral(word)
+        || action(word).is_some()
+        || word == b"remark".as_slice()
+        || word == b"dynamic".as_slice()
+        || word == b"evaluate".as_slice()
+}
+
+/// The entry of a line of a list: with a number in front or without one. `None` for a remark.
+#[tactic(auto, unfolding(crate::specs::Judging::section_entry))]
+fn section_entry(
+    alloc: Global,
+    declared: &Declared,
+    list: &Name,
+    extended: bool,
+    words: &[&[u8]],
+) -> Result<Option<NumberedEntry>, LineError>
+    ensures says { Gives result (judging.section_entry declared.now list.now extended (texts words.now)) }
+    ensures room { IfOk result (λ entry. IfSome entry (λ _. declared.now.entries < entry_limit)) }
+{
+    match words {
+        [number, words @ ..] if is_numeral(number) => {
+            entry_or_remark(alloc, declared, list, extended, Some(number), words)
+        }
+        _ => entry_or_remark(alloc, declared, list, extended, None, words),
+    }
+}
+
+/// The statement of an entry in the section of its list.
+fn section_statement(entry: Option<NumberedEntry>) -> Option<Statement>
+    ensures { result ≡ judging.section_statement entry }
+{
+    match entry {
+        Some(entry) => Some(Statement::SectionEntry(entry)),
+        None => None,
+    }
+}
+
+/// A line that begins with no keyword of its own, by its first word and all of its words.
+fn other_line(
+    alloc: Global,
+    declared: &Declared,
+    word: &[u8],
+    words: &[&[u8]],
+) -> Result<Option<Statement>, LineError>
+    ensures says { Gives result (judging.other_line declared.now declared.now.section word.now (texts words.now)) }
+    ensures fits { IfOk result (λ said. IfSome said (λ s. Fits declared.now s)) }
+{
+    match &declared.section {
+        Section::List { name, extended } if begins_list_line(word) => {
+            let entry = section_entry(alloc, declared, name, *extended, words)?;
+            Ok(section_statement(entry))
+        }
+        _ => Ok(Some(Statement::Other)),
+    }
+}
+
+/// `interface NAME ..`, by the words behind its first.
+fn interface_line(alloc: Global, words: &[&[u8]]) -> Result<Statement, LineError>
+    ensures says { Gives result (judging.interface_line (texts words.now)) }
+    ensures free { IfOk result NeedsNoRoom }
+{
+    match words {
+        [name, ..] => Ok(Statement::Interface(Name::of(alloc, name)?)),
+        [] => Err(LineError::Faulty(ConfigWhy::BadEntry)),
+    }
+}
+
+/// A comment's first word begins with `!`.
+fn is_comment(word: &[u8]) -> bool
+    ensures { result ≡ judging.is_comment word.now }
+{
+    match word {
+        [first, ..] => *first == b'!',
+        [] => false,
+    }
+}
+
+/// What a line says whose first word is a keyword, by that word and the others.
+#[tactic(auto, using(crate::proofs::RoomLaws::fits_anywhere))]
+fn keyword_line(
+    alloc: Global,
+    declared: &Declared,
+    word: &[u8],
+    words: &[&[u8]],
+) -> Option<Result<Statement, LineError>>
+    ensures says { GivesIf result (judging.keyword_says declared.now word.now (texts words.now)) }
+    ensures fits { IfSome result (λ r. IfOk r (λ s. Fits declared.now s)) }
+{
+    if word == b"interface".as_slice() {
+        return Some(interface_line(alloc, words));
+    }
+    if word == b"access-list".as_slice() {
+        return Some(list_line(alloc, declared, words));
+    }
+    if word == b"ip".as_slice() {
+        return Some(ip_line(alloc, declared, words));
+    }
+    if word == b"no".as_slice() {
+        return Some(no_line(declared, words));
+    }
+    None
+}
+
+/// What a line's words declare. A line without words and a comment declare nothing.
+fn said(alloc: Global, declared: &Declared, words: &[&[u8]]) -> Result<Option<Statement>, LineError>
+    ensures says { Gives result (judging.words_say declared.now (texts words.now)) }
+    ensures fits { IfOk result (λ said. IfSome said (λ s. Fits declared.now s)) }
+{
+    let [word, rest @ ..] = words else {
+        return Ok(None);
+    };
+    if is_comment(word) {
+        return Ok(None);
+    }
+    match keyword_line(alloc, declared, word, rest) {
+        Some(said) => Ok(Some(said?)),
+        None => other_line(alloc, declared, word, words),
+    }
+}
+
+/// What a line declares.
+#[tactic(auto, unfolding(crate::specs::Judging::line_says))]
+fn line_says(
+    alloc: Global,
+    declared: &Declared,
+    line: &[u8],
+) -> Result<Option<Statement>, LineError>
+    ensures says { Gives result (judging.line_says declared.now line.now) }
+    ensures fits { IfOk result (λ said. IfSome said (λ s. Fits declared.now s)) }
+{
+    let words = word_list(alloc, line)?;
+    said(alloc, declared, words.as_slice())
+}
+
+/// Reads the line of this number: adds what it declares.
+pub fn read_line(
+    alloc: Global,
+    declared: &mut Declared,
+    number: u64,
+    line: &[u8],
+) -> Result<(), ConfigError>
+    ensures after { OnOk result (after_line declared.old number line.now ≡ Ok declared.new) }
+    ensures fault { IfErr result (λ error. IsFaultOf (after_line declared.old number line.now) error) }
+{
+    match line_says(alloc, declared, line) {
+        Ok(Some(statement)) => declared.add(alloc, statement)?,
+        Ok(None) => {}
+        Err(LineError::Faulty(why)) => {
+            return Err(ConfigError::Fault(ConfigFault { line: number, why }));
+        }
+        Err(LineError::Memory(error)) => return Err(ConfigError::Memory(error)),
+    }
+    Ok(())
+}

@@ -1,0 +1,194 @@
+//! The entries of lists, with their sequence numbers.
+
+ghost use Rattle.std.specs.Prelude.{◌≡◌, ◌<◌, IfOk, IfSome, OnOk, nat_eq, max, fold};
+ghost use Rattle.std.specs.List.{list_any};
+ghost use Rattle.std.specs.Option.{option_copied};
+ghost use Rattle.np_acl_read.specs.Adding.{entry_limit};
+ghost use Rattle.np_acl_read.specs.Answers.{Gives, texts};
+ghost use Rattle.np_acl_read.specs.Judging as judging;
+
+use crate::declared::Declared;
+use crate::entry::entry;
+use crate::fault::ConfigWhy;
+use crate::line_error::LineError;
+use crate::numbered::NumberedLists;
+use crate::statement::NumberedEntry;
+use crate::words::action;
+use np_text::{Name, number};
+use std::alloc::Global;
+
+/// The entries of one configuration, at most.
+const ENTRY_LIMIT: usize = 20_000;
+
+/// The greatest sequence number.
+const NUMBER_LIMIT: u32 = 2_147_483_647;
+
+/// Whether an entry of a list has this number.
+fn is_used(lists: &NumberedLists, list: &Name, number: u32) -> bool
+    ensures { result ≡ list_any (nat_eq number) (judging.numbers_in lists.now list.now) }
+{
+    match lists.entries(list) {
+        Some(entries) => entries.has(number),
+        None => false,
+    }
+}
+
+/// The greatest number of a list's entries; 0 where there is none.
+fn greatest(lists: &NumberedLists, list: &Name) -> u32
+    ensures { result ≡ fold max 0 (judging.numbers_in lists.now list.now) }
+{
+    match lists.entries(list) {
+        Some(entries) => entries.greatest(),
+        None => 0,
+    }
+}
+
+/// The number of a word that an entry of a list may have.
+fn sequence_number(lists: &NumberedLists, list: &Name, word: &[u8]) -> Result<u32, LineError>
+    ensures { Gives result (judging.sequence_number (judging.numbers_in lists.now list.now) word.now) }
+{
+    match number(word, u64::from(NUMBER_LIMIT)) {
+        Some(value) if value > 0 => {
+            let value = value as u32;
+            if is_used(lists, list, value) {
+                Err(LineError::Faulty(ConfigWhy::DuplicateSequence))
+            } else {
+                Ok(value)
+            }
+        }
+        _ => Err(LineError::Faulty(ConfigWhy::BadNumber)),
+    }
+}
+
+/// The number of an entry without one: 10 more than the greatest of its list.
+fn next_number(lists: &NumberedLists, list: &Name) -> Result<u32, LineError>
+    ensures { Gives result (judging.next_number (judging.numbers_in lists.now list.now)) }
+{
+    let greatest = greatest(lists, list);
+    if greatest <= NUMBER_LIMIT - 10 {
+        Ok(greatest + 10)
+    } else {
+        Err(LineError::Faulty(ConfigWhy::BadNumber))
+    }
+}
+
+/// One more entry, where there are so many.
+fn counted(entries: usize, entry: NumberedEntry) -> Result<NumberedEntry, LineError>
+    ensures says { Gives result (judging.counted entries entry) }
+    ensures room { OnOk result (entries < entry_limit) }
+{
+    if entries < ENTRY_LIMIT {
+        Ok(entry)
+    } else {
+        Err(LineError::Faulty(ConfigWhy::TooManyEntries))
+    }
+}
+
+/// An entry of a list without a number, by the words behind `permit` or `deny`.
+fn unnumbered(
+    alloc: Global,
+    declared: &Declared,
+    list: &Name,
+    extended: bool,
+    permit: bool,
+    words: &[&[u8]],
+) -> Result<NumberedEntry, LineError>
+    ensures says { Gives result (judging.unnumbered declared.now list.now extended permit (texts words.now)) }
+    ensures room { OnOk result (declared.now.entries < entry_limit) }
+{
+    let entry = entry(alloc, extended, permit, words)?;
+    let number = next_number(&declared.lists, list)?;
+    let list = list.copy(alloc)?;
+    counted(
+        declared.entries,
+        NumberedEntry {
+            list,
+            number,
+            entry,
+        },
+    )
+}
+
+/// The same with the number of a word, which is judged before the entry's words.
+fn numbered(
+    alloc: Global,
+    declared: &Declared,
+    list: &Name,
+    extended: bool,
+    word: &[u8],
+    permit: bool,
+    words: &[&[u8]],
+) -> Result<NumberedEntry, LineError>
+    ensures says { Gives result (judging.numbered declared.now list.now extended word.now permit (texts words.now)) }
+    ensures room { OnOk result (declared.now.entries < entry_limit) }
+{
+    let number = sequence_number(&declared.lists, list, word)?;
+    let entry = entry(alloc, extended, permit, words)?;
+    let list = list.copy(alloc)?;
+    counted(
+        declared.entries,
+        NumberedEntry {
+            list,
+            number,
+            entry,
+        },
+    )
+}
+
+/// An entry of a list, with the number of a word or without one.
+fn list_entry(
+    alloc: Global,
+    declared: &Declared,
+    list: &Name,
+    extended: bool,
+    number: Option<&[u8]>,
+    permit: bool,
+    words: &[&[u8]],
+) -> Result<NumberedEntry, LineError>
+    ensures says { Gives result (judging.list_entry declared.now list.now extended (option_copied number.entry) permit (texts words.now)) }
+    ensures room { OnOk result (declared.now.entries < entry_limit) }
+{
+    match number {
+        Some(word) => numbered(alloc, declared, list, extended, word, permit, words),
+        None => unnumbered(alloc, declared, list, extended, permit, words),
+    }
+}
+
+/// The fault of a word where `permit` or `deny` has to stand.
+fn no_action(word: &[u8]) -> ConfigWhy
+    ensures { result ≡ judging.no_action word.now }
+{
+    if word == b"dynamic".as_slice() || word == b"evaluate".as_slice() {
+        ConfigWhy::Unsupported
+    } else {
+        ConfigWhy::BadEntry
+    }
+}
+
+/// An entry of a list, or nothing for `remark`.
+#[tactic(auto, unfolding(crate::specs::Judging::entry_or_remark))]
+pub fn entry_or_remark(
+    alloc: Global,
+    declared: &Declared,
+    list: &Name,
+    extended: bool,
+    number: Option<&[u8]>,
+    words: &[&[u8]],
+) -> Result<Option<NumberedEntry>, LineError>
+    ensures says { Gives result (judging.entry_or_remark declared.now list.now extended (option_copied number.entry) (texts words.now)) }
+    ensures room { IfOk result (λ entry. IfSome entry (λ _. declared.now.entries < entry_limit)) }
+{
+    let [word, words @ ..] = words else {
+        return Err(LineError::Faulty(ConfigWhy::BadEntry));
+    };
+    if *word == b"remark".as_slice() {
+        return Ok(None);
+    }
+    match action(word) {
+        Some(permit) => {
+            let entry = list_entry(alloc, declared, list, extended, number, permit, words)?;
+            Ok(Some(entry))
+        }
+        None => Err(LineError::Faulty(no_action(word))),
+    }
+}

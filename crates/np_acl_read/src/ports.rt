@@ -1,0 +1,182 @@
+//! The ports of an entry.
+
+ghost use Rattle.std.specs.Prelude.{◌≡◌, IfOk, IfErr, Ok};
+ghost use Rattle.np_acl_read.specs.Answers.{Gives, Reads, StopsAs, texts};
+ghost use Rattle.np_acl_read.specs.Entries as judging;
+
+use crate::fault::ConfigWhy;
+use crate::line_error::LineError;
+use crate::spans::{above, all_but, any_numbers, below, each, from_to};
+use crate::words::{is_numeral, next_word, too_great_or};
+use np_acl::{Ports, port_of};
+use std::alloc::Global;
+
+/// A port may have so many others beside it, with itself.
+const PORT_LIMIT: usize = 10;
+
+/// A port, by its number or its name.
+fn port_named(tcp: bool, word: &[u8]) -> Result<u16, LineError>
+    ensures { Gives result (judging.port_of tcp word.now) }
+{
+    match port_of(word, tcp) {
+        Some(port) => Ok(port),
+        None => Err(LineError::Faulty(too_great_or(word, ConfigWhy::UnknownName))),
+    }
+}
+
+/// The port that has to stand here.
+#[tactic(auto, unfolding(crate::specs::Entries::port_in))]
+fn port<'a>(tcp: bool, words: &'a [&'a [u8]]) -> Result<(u16, &'a [&'a [u8]]), LineError>
+    ensures { Reads result (judging.port_in tcp (texts words.now)) }
+{
+    let (word, words) = next_word(words)?;
+    Ok((port_named(tcp, word)?, words))
+}
+
+/// Whether a word is a number or the name of a port.
+fn is_port(tcp: bool, word: &[u8]) -> bool
+    ensures { result ≡ judging.is_port tcp word.now }
+{
+    is_numeral(word) || port_of(word, tcp).is_some()
+}
+
+/// One more port where there are so many.
+fn one_more(tcp: bool, count: usize, word: &[u8]) -> Result<u16, LineError>
+    ensures { Gives result (judging.one_more tcp count word.now) }
+{
+    if count == PORT_LIMIT {
+        return Err(LineError::Faulty(ConfigWhy::BadEntry));
+    }
+    port_named(tcp, word)
+}
+
+/// One port to ten.
+fn ports<'a>(
+    alloc: Global,
+    tcp: bool,
+    words: &'a [&'a [u8]],
+) -> Result<(Vec<u16>, &'a [&'a [u8]]), LineError>
+    ensures ok { IfOk result (λ read. judging.ports_in tcp (texts words.now) ≡ Ok (read.0.items, texts read.1.now)) }
+    ensures err { IfErr result (λ e. StopsAs e (judging.ports_in tcp (texts words.now))) }
+{
+    let (first, mut left) = port(tcp, words)?;
+    let mut ports = Vec::new(alloc);
+    ports.push(first)?;
+    while let [word, rest @ ..] = left {
+        if !is_port(tcp, word) {
+            return Ok((ports, left));
+        }
+        ports.push(one_more(tcp, ports.len(), word)?)?;
+        left = rest;
+    }
+    Ok((ports, left))
+}
+
+/// The ports of `eq`.
+fn equal<'a>(
+    alloc: Global,
+    tcp: bool,
+    words: &'a [&'a [u8]],
+) -> Result<(Ports, &'a [&'a [u8]]), LineError>
+    ensures { Reads result (judging.equal_in tcp (texts words.now)) }
+{
+    let (ports, words) = ports(alloc, tcp, words)?;
+    Ok((each(alloc, ports.as_slice())?, words))
+}
+
+/// The ports of `neq`.
+fn unequal<'a>(
+    alloc: Global,
+    tcp: bool,
+    words: &'a [&'a [u8]],
+) -> Result<(Ports, &'a [&'a [u8]]), LineError>
+    ensures { Reads result (judging.unequal_in tcp (texts words.now)) }
+{
+    let (ports, words) = ports(alloc, tcp, words)?;
+    Ok((all_but(alloc, ports.as_slice())?, words))
+}
+
+/// The ports of `lt`.
+fn less<'a>(
+    alloc: Global,
+    tcp: bool,
+    words: &'a [&'a [u8]],
+) -> Result<(Ports, &'a [&'a [u8]]), LineError>
+    ensures { Reads result (judging.less_in tcp (texts words.now)) }
+{
+    let (port, words) = port(tcp, words)?;
+    Ok((below(alloc, port)?, words))
+}
+
+/// The ports of `gt`.
+fn greater<'a>(
+    alloc: Global,
+    tcp: bool,
+    words: &'a [&'a [u8]],
+) -> Result<(Ports, &'a [&'a [u8]]), LineError>
+    ensures { Reads result (judging.greater_in tcp (texts words.now)) }
+{
+    let (port, words) = port(tcp, words)?;
+    Ok((above(alloc, port)?, words))
+}
+
+/// The ports of `range`.
+#[tactic(auto, unfolding(crate::specs::Entries::range_in))]
+fn range<'a>(
+    alloc: Global,
+    tcp: bool,
+    words: &'a [&'a [u8]],
+) -> Result<(Ports, &'a [&'a [u8]]), LineError>
+    ensures { Reads result (judging.range_in tcp (texts words.now)) }
+{
+    let (low, words) = port(tcp, words)?;
+    let (high, words) = port(tcp, words)?;
+    if low > high {
+        return Err(LineError::Faulty(ConfigWhy::BadRange));
+    }
+    Ok((from_to(alloc, low, high)?, words))
+}
+
+/// The ports that stand here, and every port where none do.
+fn tests<'a>(
+    alloc: Global,
+    tcp: bool,
+    words: &'a [&'a [u8]],
+) -> Result<(Ports, &'a [&'a [u8]]), LineError>
+    ensures { Reads result (judging.tests_in tcp (texts words.now)) }
+{
+    let [word, rest @ ..] = words else {
+        return Ok((any_numbers(alloc)?, words));
+    };
+    if *word == b"eq".as_slice() {
+        return equal(alloc, tcp, rest);
+    }
+    if *word == b"neq".as_slice() {
+        return unequal(alloc, tcp, rest);
+    }
+    if *word == b"lt".as_slice() {
+        return less(alloc, tcp, rest);
+    }
+    if *word == b"gt".as_slice() {
+        return greater(alloc, tcp, rest);
+    }
+    if *word == b"range".as_slice() {
+        return range(alloc, tcp, rest);
+    }
+    Ok((any_numbers(alloc)?, words))
+}
+
+/// The ports that stand here, where the protocol has ports: TCP's names where `tcp` is true.
+#[tactic(auto, unfolding(crate::specs::Entries::port_tests))]
+pub fn port_tests<'a>(
+    alloc: Global,
+    tcp: Option<bool>,
+    words: &'a [&'a [u8]],
+) -> Result<(Ports, &'a [&'a [u8]]), LineError>
+    ensures { Reads result (judging.port_tests tcp (texts words.now)) }
+{
+    match tcp {
+        Some(tcp) => tests(alloc, tcp, words),
+        None => Ok((any_numbers(alloc)?, words)),
+    }
+}

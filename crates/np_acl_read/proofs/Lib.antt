@@ -4,5 +4,6 @@ pub mod NumberedLaws
 pub mod OptionLaws
 pub mod PortLaws
 pub mod RoomLaws
+pub mod SpanMeaning
 pub mod TernaryLaws
 pub mod WordLaws

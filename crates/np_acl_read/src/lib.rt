@@ -7,6 +7,7 @@ mod declared;
 mod entry;
 mod fault;
 mod groups;
+mod laws;
 mod line_error;
 mod lines;
 mod list_entries;
@@ -21,6 +22,7 @@ mod words;
 
 pub use config::{Config, Group, Lists, Way, empty_config};
 pub use fault::{ConfigError, ConfigFault, ConfigWhy};
+pub use laws::{patterns_are_those_meant, ports_are_those_meant};
 pub use reading::read_config;
 
 #[cfg(test)]

@@ -45,8 +45,8 @@ made list keys = record { lists = map list (names_of_keys keys); names = names_o
 
 -- what is made of the maps is what the configurations apply
 pub posture_made : (net : Plan) (configs : List Config) (interfaces : List Interface) (devices before : List DeviceLists) (keys : List (Option (ℕ × List ℕ))) (slots : ℕ) →
-  interfaces ≡ net.interfaces → slots ≡ 2 * length net.interfaces → devices ≡ map device_lists configs → before ≡ map device_lists configs → keys ≡ map (key_of_slot interfaces before) (range_with_len 0 slots) →
-  posture_with devices keys ≡ posture_of net configs
+    interfaces ≡ net.interfaces → slots ≡ 2 * length net.interfaces → devices ≡ map device_lists configs → before ≡ map device_lists configs → keys ≡ map (key_of_slot interfaces before) (range_with_len 0 slots) →
+    posture_with devices keys ≡ posture_of net configs
 posture_made net configs interfaces devices before keys slots ei es ed eb ek =
     (λ i. made (list_of_key (ed i)) (ek i))
     ∙ (λ i. made (list_of_key (map device_lists configs)) (map (key_of_slot (ei i) (eb i)) (range_with_len 0 (es i))))

@@ -23,8 +23,8 @@ module _ {S R : Type 0} (fits : S → R → Type 0) (has : S → R → Header �
 
   -- one more region
   pub cuts_more : {X : Type 0} (test : X → Header → Bool) (before : List (Header → Bool)) (old s t : S) (xs ys : List X) (x : X) (cuts : List R) (cut : R) →
-    AreCuts fits has (before ++ map test xs) old s cuts → KeepsRegions fits has s t → fits t cut → ((h : Header) → has t cut h ≡ test x h) → ys ≡ xs ++ x ∷ [] →
-    AreCuts fits has (before ++ map test ys) old t (cuts ++ cut ∷ [])
+      AreCuts fits has (before ++ map test xs) old s cuts → KeepsRegions fits has s t → fits t cut → ((h : Header) → has t cut h ≡ test x h) → ys ≡ xs ++ x ∷ [] →
+      AreCuts fits has (before ++ map test ys) old t (cuts ++ cut ∷ [])
   cuts_more test before old s t xs ys x cuts cut so_far k f e more =
       record {
         kept = keeps_chained fits has old s t so_far.kept k;

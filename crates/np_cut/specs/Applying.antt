@@ -71,8 +71,8 @@ slot_list net configs slot = option_and_then (list_with_entries (slot_config net
 abbrev pub slot_key : Plan → List Config → ℕ → Option (ℕ × List ℕ)
 slot_key net configs slot =
     option_and_then
-      (λ name. option_map (λ list. ((slot_interface net slot).device, name)) (list_with_entries (slot_config net configs slot).lists name))
-      (slot_name net configs slot)
+    (λ name. option_map (λ list. ((slot_interface net slot).device, name)) (list_with_entries (slot_config net configs slot).lists name))
+    (slot_name net configs slot)
 
 -- what crosses a slot: what the list that is applied there permits, and everything where there is none
 abbrev pub slot_lets : Plan → List Config → ℕ → Header → Bool

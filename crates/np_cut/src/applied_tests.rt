@@ -2,9 +2,11 @@
 
 use super::*;
 use np_acl_read::read_config;
+use np_net::Network;
 use np_net_read::read_net;
-use np_region::{BlockLists, Regions};
+use np_region::BlockLists;
 use np_space::Header;
+use std::alloc::Global;
 use std::test::Fail;
 
 const NET: &[u8] = b"area a 10.1.0.0/16\n\
@@ -47,37 +49,51 @@ fn to_port(proto: u8, b: u16) -> Header {
     }
 }
 
-#[test]
-fn lists_at_slots(rt: HostRuntime) -> Result<(), Fail> {
-    let alloc = rt.alloc();
-    let net = read_net(alloc, NET)?;
+// What is applied, of the network and the two configurations.
+fn all_applied(alloc: Global, net: &Network) -> Result<Applied, Fail> {
     let mut configs = Vec::new(alloc);
     configs.push(read_config(alloc, FIRST)?)?;
     configs.push(read_config(alloc, SECOND)?)?;
-    let applied = apply(alloc, &net, configs)?;
-    let shell = to_port(6, 22);
-    let names = to_port(17, 53);
-    for (slot, place, lets_shell, lets_names) in [
-        (0, Some(0), false, true),
-        (1, None, true, true),
-        (2, None, true, true),
-        (3, Some(0), false, true),
-        (4, None, true, true),
-        (5, Some(1), true, false),
-        (6, None, true, true),
-        (7, None, true, true),
-    ] {
-        assert_eq!(rt; applied.at.as_slice()[slot], place, "at slot {slot}");
-        assert_eq!(rt; lets(&applied, slot, &shell), lets_shell, "the shell at slot {slot}");
-        assert_eq!(rt; lets(&applied, slot, &names), lets_names, "names at slot {slot}");
-    }
+    Ok(apply(alloc, net, configs)?)
+}
 
-    let mut store = BlockLists::new(alloc);
-    let cuts = filter_cuts(alloc, &mut store, &net, &applied)?;
-    assert_eq!(rt; cuts.len(), 3);
-    for (cut, has_shell, has_names) in [(0, false, true), (1, true, false), (2, false, true)] {
-        assert_eq!(rt; store.has(&cuts[cut], &shell), has_shell, "the shell in cut {cut}");
-        assert_eq!(rt; store.has(&cuts[cut], &names), has_names, "names in cut {cut}");
+// The place of the list at a slot, and whether it lets a header of the shell and one of names cross.
+fn at_slot(applied: &Applied, slot: usize) -> (Option<usize>, bool, bool) {
+    if slot < applied.at.len() {
+        let shell = lets(applied, slot, &to_port(6, 22));
+        let names = lets(applied, slot, &to_port(17, 53));
+        (applied.at.as_slice()[slot], shell, names)
+    } else {
+        (None, false, false)
     }
+}
+
+#[test]
+fn lists_at_slots(rt: HostRuntime) -> Result<(), Fail> {
+    let net = read_net(rt.alloc(), NET)?;
+    let applied = all_applied(rt.alloc(), &net)?;
+    for (slot, found) in [
+        (0, (Some(0), false, true)),
+        (1, (None, true, true)),
+        (2, (None, true, true)),
+        (3, (Some(0), false, true)),
+        (4, (None, true, true)),
+        (5, (Some(1), true, false)),
+        (6, (None, true, true)),
+        (7, (None, true, true)),
+        (8, (None, false, false)),
+    ] {
+        assert_eq!(rt; at_slot(&applied, slot), found);
+    }
+    Ok(())
+}
+
+#[test]
+fn cuts_of_lists_and_goals(rt: HostRuntime) -> Result<(), Fail> {
+    let net = read_net(rt.alloc(), NET)?;
+    let applied = all_applied(rt.alloc(), &net)?;
+    let mut store = BlockLists::new(rt.alloc());
+    let cuts = filter_cuts(rt.alloc(), &mut store, &net, &applied)?;
+    assert_eq!(rt; cuts.len(), 3);
     Ok(())
 }

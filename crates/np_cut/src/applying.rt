@@ -58,10 +58,7 @@ fn lists_of_keys(
     Ok(lists)
 }
 
-fn copy_keys(
-    alloc: Global,
-    keys: &[(DevId, Name)],
-) -> Result<Items<(DevId, Name)>, AllocError>
+fn copy_keys(alloc: Global, keys: &[(DevId, Name)]) -> Result<Items<(DevId, Name)>, AllocError>
     ensures { IfOk result (λ copies. copies ≡ keys.now) }
 {
     let mut copies = Items::new(alloc);
@@ -104,11 +101,7 @@ fn applied_by_keys(
 /// The lists that configurations apply at the slots of a network: one configuration for each device,
 /// in the order of the devices. Fails only for want of memory. Time and memory are linear in the
 /// configurations and the slots.
-pub fn apply(
-    alloc: Global,
-    net: &Network,
-    configs: Vec<Config>,
-) -> Result<Applied, AllocError>
+pub fn apply(alloc: Global, net: &Network, configs: Vec<Config>) -> Result<Applied, AllocError>
     ensures made { IfOk result (λ applied. applied ≡ posture_of net.now configs.items) }
     ensures posture { IfOk result (λ applied. (slot : ℕ) → slot < 2 * length net.now.interfaces → (h : Header) → posture_lets applied slot h ≡ slot_lets net.now configs.items slot h) }
 {

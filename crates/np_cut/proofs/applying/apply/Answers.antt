@@ -12,7 +12,7 @@ made_of_maps c =
     let configs = c.args.configs.items in
     let made : posture_with c.as_slice-3.result.now c.as_slice-4.result.now ≡ posture_of net configs =
     posture_made net configs c.as_slice.result.now c.as_slice-3.result.now c.as_slice-2.result.now c.as_slice-4.result.now c.len.result
-      (c.as_slice.ensures ∙ ap (λ n. n.interfaces) c.net.view_is) (c.len.ensures ∙ c.net.invariant.free ∙ ap (λ n. 2 * length n.interfaces) c.net.view_is) (c.as_slice-3.ensures.value ∙ c.in_ok-devices.ensures) (c.as_slice-2.ensures.value ∙ c.in_ok-devices.ensures) (c.as_slice-4.ensures.value ∙ c.in_ok-keys.ensures) in
+    (c.as_slice.ensures ∙ ap (λ n. n.interfaces) c.net.view_is) (c.len.ensures ∙ c.net.invariant.free ∙ ap (λ n. 2 * length n.interfaces) c.net.view_is) (c.as_slice-3.ensures.value ∙ c.in_ok-devices.ensures) (c.as_slice-2.ensures.value ∙ c.in_ok-devices.ensures) (c.as_slice-4.ensures.value ∙ c.in_ok-keys.ensures) in
     subst (λ (p : Posture). IfOk c.applied_by_keys.result (λ applied. applied ≡ p)) made c.applied_by_keys.ensures
 
 pub returns-clause-made : goal.returns-clause-made

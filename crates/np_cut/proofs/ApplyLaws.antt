@@ -1,6 +1,6 @@
 -- What configurations apply, by the maps that are made of them.
-use Rattle.std.proofs.Common.{◌≡◌, ℕ, ◌+◌, ◌*◌, ◌/◌, ◌%◌, ◌<◌, Bool, true, false, List, [], ◌∷◌, length, get_or, map, Option, Some, None, Result, Ok, Err, IfOk, refl, sym, ◌∙◌, ap, subst, arith}
-use Rattle.std.specs.Prelude.{IfSome, option_map, option_and_then, unwrap_or, position, ◌==◌}
+use Rattle.std.proofs.Common.{◌≡◌, ℕ, ◌*◌, ◌%◌, ◌<◌, Bool, true, List, [], ◌∷◌, length, get_or, map, Option, Some, None, Result, Ok, Err, IfOk, refl, sym, ◌∙◌, ap, subst, arith}
+use Rattle.std.specs.Prelude.{IfSome, option_and_then, unwrap_or, ◌==◌}
 use Rattle.std.specs.List.{range_with_len}
 use Rattle.std.specs.Map.{lookup}
 use Rattle.std.specs.Option.{option_map_or}
@@ -15,11 +15,10 @@ use Rattle.np_acl_read.specs.Declaring.{same_slot}
 use Rattle.np_acl_read.specs.declared.config.Config.{Config}
 use Rattle.np_net.specs.declared.filtering.Interface.{Interface}
 use Rattle.np_net.specs.Plan.{Plan}
-use Rattle.np_net.specs.Distinct.{same_place}
 use Rattle.np_cut.specs.declared.device_lists.DeviceLists.{DeviceLists}
-use Rattle.np_cut.specs.Applying.{config_at, key_list, list_with_entries, names_of_keys, place_in, posture_of, slot_config, slot_interface, slot_key, slot_keys, slot_list, slot_lets, slot_name, group_entries}
+use Rattle.np_cut.specs.Applying.{config_at, key_list, list_with_entries, names_of_keys, place_in, posture_of, slot_config, slot_interface, slot_key, slot_keys, slot_lets, slot_name, group_entries}
 use Rattle.np_cut.specs.DeviceLists.{device_at, device_lists, key_of_slot, list_of_key, named_key, posture_with}
-use Rattle.np_cut.specs.Posture.{Posture, IsPosture, place_at, posture_lets}
+use Rattle.np_cut.specs.Posture.{Posture, IsPosture, posture_lets}
 use Rattle.np_cut.proofs.GroupLaws.{first_counts}
 use Rattle.np_cut.proofs.KeyLaws.{StandsAt, key_stands, place_within}
 

@@ -1,5 +1,5 @@
 -- What contracts see of the lists that configurations apply.
-use Rattle.std.specs.Prelude.{◌≡◌, ℕ, ◌<◌, Bool, true, List, [], length, Option, None, IfSome, slice_index_or}
+use Rattle.std.specs.Prelude.{ℕ, ◌<◌, Bool, true, List, [], length, Option, None, IfSome, slice_index_or}
 use Rattle.std.specs.Option.{option_map_or}
 use Rattle.np_space.specs.declared.headers.Header.{Header}
 use Rattle.np_acl.specs.declared.entries.Entry.{Entry}

@@ -1,8 +1,7 @@
-use Rattle.std.proofs.Common.{◌≡◌, ◌∙◌, ◌<◌, ◌*◌, ℕ, length, ap, subst, sym, IfOk, map}
-use Rattle.np_space.specs.declared.headers.Header.{Header}
-use Rattle.np_cut.specs.Applying.{posture_of, slot_lets}
-use Rattle.np_cut.specs.DeviceLists.{posture_with, device_lists}
-use Rattle.np_cut.specs.Posture.{Posture, posture_lets}
+use Rattle.std.proofs.Common.{◌≡◌, ◌∙◌, ◌*◌, length, ap, subst, IfOk}
+use Rattle.np_cut.specs.Applying.{posture_of}
+use Rattle.np_cut.specs.DeviceLists.{posture_with}
+use Rattle.np_cut.specs.Posture.{Posture}
 use Rattle.np_cut.proofs.ApplyLaws.{posture_made, lets_by_result}
 use Rattle.np_cut.proofs.applying.apply.Goals as goal
 

@@ -1,6 +1,6 @@
 use Rattle.std.proofs.Common.{◌≡◌, ◌+◌, ◌<◌, [], ◌∷◌, ◌++◌, length, take, ap, sym, ◌∙◌, arith}
 use Rattle.std.proofs.lemmas.List.{take_more}
-use Rattle.np_cut.specs.FilterCuts.{AreCuts, cut_tests, goal_test}
+use Rattle.np_cut.specs.FilterCuts.{cut_tests, goal_test}
 use Rattle.np_cut.proofs.FilterLaws.{cuts_more}
 use Rattle.np_cut.proofs.filtering.with_goals.Goals as goal
 

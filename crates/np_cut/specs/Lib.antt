@@ -1,2 +1,7 @@
+pub mod Applying
 pub mod Cutting
+pub mod DeviceLists
 pub mod FieldTests
+pub mod FilterCuts
+pub mod FirstGroups
+pub mod Posture

@@ -1,13 +1,26 @@
-//! Regions of access lists and of predicates.
+//! Regions of access lists and of predicates, and the lists that a network's configurations apply.
 #![tactic(auto)]
 
+mod applied;
+mod applying;
+mod copies;
+mod device_lists;
 mod field_blocks;
+mod filtering;
+mod first_groups;
+mod key_set;
+mod keys;
 mod list_regions;
 mod pred_regions;
 
+pub use applied::{Applied, lets};
+pub use applying::apply;
+pub use filtering::filter_cuts;
 pub use list_regions::list_region;
 pub use pred_regions::pred_region;
 
+#[cfg(test)]
+mod applied_tests;
 #[cfg(test)]
 mod pred_tests;
 #[cfg(test)]

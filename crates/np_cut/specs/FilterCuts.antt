@@ -1,0 +1,37 @@
+-- The tests that the cuts of a network's filtering are.
+use Rattle.std.specs.Prelude.{◌≡◌, Bool, ◌&&◌, List, ◌++◌, map}
+use Rattle.np_space.specs.Header.{is_valid_header}
+use Rattle.np_space.specs.declared.headers.Header.{Header}
+use Rattle.np_acl.specs.declared.entries.Entry.{Entry}
+use Rattle.np_acl.specs.Entries.{list_permits}
+use Rattle.np_net.specs.declared.filtering.Goal.{Goal}
+use Rattle.np_pred.specs.Meaning.{pred_holds}
+use Rattle.np_region.specs.Keeping.{KeepsRegions, EachFits}
+
+-- the tests that regions are, as the store keeps them
+abbrev pub cut_tests : {S R : Type 0} → (S → R → Header → Bool) → S → List R → List (Header → Bool)
+cut_tests has s cuts = map (λ cut. has s cut) cuts
+
+-- of the valid headers those that a list permits
+abbrev pub list_test : List Entry → Header → Bool
+list_test list h = is_valid_header h && list_permits list h
+
+-- of the valid headers those for which a goal's predicate holds
+abbrev pub goal_test : Goal → Header → Bool
+goal_test goal h = is_valid_header h && pred_holds goal.pred h
+
+abbrev pub list_tests : List (List Entry) → List (Header → Bool)
+list_tests lists = map list_test lists
+
+abbrev pub goal_tests : List Goal → List (Header → Bool)
+goal_tests goals = map goal_test goals
+
+-- what the lists permit, one after another, and then where the goals' predicates hold
+abbrev pub filter_tests : List (List Entry) → List Goal → List (Header → Bool)
+filter_tests lists goals = list_tests lists ++ goal_tests goals
+
+-- Between two stores the regions are kept; the regions fit the new one, and are these tests there.
+pub record AreCuts {S R : Type 0} (fits : S → R → Type 0) (has : S → R → Header → Bool) (tests : List (Header → Bool)) (old new : S) (cuts : List R) : Type 0 where
+  pub kept : KeepsRegions fits has old new
+  pub fit : EachFits fits new cuts
+  pub exact : cut_tests has new cuts ≡ tests

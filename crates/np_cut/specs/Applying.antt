@@ -20,6 +20,7 @@ use Rattle.np_cut.specs.Posture.{Posture}
 
 -- ---- a configuration
 
+-- the way is the one in
 abbrev pub is_inward : Way → Bool
 is_inward way.Inward = true
 is_inward way.Outward = false

@@ -20,9 +20,11 @@ list_test list h = is_valid_header h && list_permits list h
 abbrev pub goal_test : Goal → Header → Bool
 goal_test goal h = is_valid_header h && pred_holds goal.pred h
 
+-- those of several lists
 abbrev pub list_tests : List (List Entry) → List (Header → Bool)
 list_tests lists = map list_test lists
 
+-- those of several goals
 abbrev pub goal_tests : List Goal → List (Header → Bool)
 goal_tests goals = map goal_test goals
 

@@ -1,0 +1,2 @@
+//! Tests of the ground layer: texts, lines, headers, regions and atoms.
+#![tactic(auto)]

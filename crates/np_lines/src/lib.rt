@@ -1,0 +1,2 @@
+//! What every reader of lines shares, whatever the causes of its faults are.
+#![tactic(auto)]

@@ -1,0 +1,2 @@
+//! Tests of the layer of access lists: entries, configurations and what is cut out of them.
+#![tactic(auto)]

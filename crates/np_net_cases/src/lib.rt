@@ -1,0 +1,2 @@
+//! Tests of the layer of networks: predicates, networks and their texts.
+#![tactic(auto)]

@@ -1,4 +1,6 @@
-use super::*;
+//! Shelves and sinks, in memory and real.
+
+use np_outside::{Failed, FileShelf, MemShelf, MemSink, ReadError, Shelf, Sink, StdSink, read_file, write_all};
 use std::alloc::{AllocError, Global};
 use std::fs;
 use std::process::Abort;

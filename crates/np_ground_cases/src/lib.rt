@@ -1,5 +1,7 @@
-//! Tests of the ground layer: texts, lines, headers, regions and atoms.
+//! Tests of the ground layer: files and output, texts, lines, headers, regions and atoms.
 #![tactic(auto)]
 
 #[cfg(test)]
 mod outside;
+#[cfg(test)]
+mod text;

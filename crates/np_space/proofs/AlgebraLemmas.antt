@@ -18,7 +18,7 @@ use Rattle.np_space.specs.declared.blocks.Block.{Block}
 use Rattle.np_space.specs.declared.blocks.AddressField.{AddressField}
 use Rattle.np_space.specs.declared.blocks.AddressField.TheVariants.{Src, Dst}
 use Rattle.np_space.specs.declared.blocks.SpanField.{SpanField}
-use Rattle.np_space.specs.declared.blocks.SpanField.TheVariants.{Proto, A, B, Est}
+use Rattle.np_space.specs.declared.blocks.SpanField.TheVariants.{Proto, A, B, Est, Dscp}
 use Rattle.np_space.proofs.FlagLemmas.{and_swap, and_true, and_join, and_sum, and_sum_three, flag_small, flag_apart}
 use Rattle.np_space.proofs.BlockLemmas.{fields_in, least_of, has_least}
 use Rattle.np_space.proofs.PatternLemmas.{pattern_same}
@@ -35,14 +35,15 @@ apart_by x y h p q px qy apart =
           absurd (true≢false (sym (λ i. px both.0 i && qy both.1 i) ∙ sym apart))
     ]
 
-pub fields_meet : (x y m : Block) → ((v : ℕ) → ternary_has m.src v ≡ (ternary_has x.src v && ternary_has y.src v)) → ((v : ℕ) → ternary_has m.dst v ≡ (ternary_has x.dst v && ternary_has y.dst v)) → ((v : ℕ) → span_has m.proto v ≡ (span_has x.proto v && span_has y.proto v)) → ((v : ℕ) → span_has m.a v ≡ (span_has x.a v && span_has y.a v)) → ((v : ℕ) → span_has m.b v ≡ (span_has x.b v && span_has y.b v)) → ((v : ℕ) → span_has m.est v ≡ (span_has x.est v && span_has y.est v)) → (h : Header) → block_has m h ≡ (block_has x h && block_has y h)
+pub fields_meet : (x y m : Block) → ((v : ℕ) → ternary_has m.src v ≡ (ternary_has x.src v && ternary_has y.src v)) → ((v : ℕ) → ternary_has m.dst v ≡ (ternary_has x.dst v && ternary_has y.dst v)) → ((v : ℕ) → span_has m.proto v ≡ (span_has x.proto v && span_has y.proto v)) → ((v : ℕ) → span_has m.a v ≡ (span_has x.a v && span_has y.a v)) → ((v : ℕ) → span_has m.b v ≡ (span_has x.b v && span_has y.b v)) → ((v : ℕ) → span_has m.est v ≡ (span_has x.est v && span_has y.est v)) → ((v : ℕ) → span_has m.dscp v ≡ (span_has x.dscp v && span_has y.dscp v)) → (h : Header) → block_has m h ≡ (block_has x h && block_has y h)
 unfolding block_has
-fields_meet x y m hsrc hdst hproto ha hb hest h =
+fields_meet x y m hsrc hdst hproto ha hb hest hdscp h =
     let addresses = and_join _ _ (ternary_has x.src h.src) (ternary_has y.src h.src) (ternary_has x.dst h.dst) (ternary_has y.dst h.dst) (hsrc h.src) (hdst h.dst) in
     let with_proto = and_join _ _ _ _ (span_has x.proto h.proto) (span_has y.proto h.proto) addresses (hproto h.proto) in
     let with_a = and_join _ _ _ _ (span_has x.a h.a) (span_has y.a h.a) with_proto (ha h.a) in
     let with_b = and_join _ _ _ _ (span_has x.b h.b) (span_has y.b h.b) with_a (hb h.b) in
-    and_join _ _ _ _ (span_has x.est (flag_number h.est)) (span_has y.est (flag_number h.est)) with_b (hest (flag_number h.est))
+    let with_est = and_join _ _ _ _ (span_has x.est (flag_number h.est)) (span_has y.est (flag_number h.est)) with_b (hest (flag_number h.est)) in
+    and_join _ _ _ _ (span_has x.dscp h.dscp) (span_has y.dscp h.dscp) with_est (hdscp h.dscp)
 
 -- no common block says that there is no common header
 pub none_exact : (x y : Block) (r : Option Block) → r ≡ None → ((h : Header) → (block_has x h && block_has y h) ≡ false) → (h : Header) → some_has block_has r h ≡ (block_has x h && block_has y h)
@@ -67,6 +68,9 @@ module _ (x y : Block) where
   pub apart_est : ((v : ℕ) → false ≡ (span_has x.est v && span_has y.est v)) → (h : Header) → (block_has x h && block_has y h) ≡ false
   apart_est apart h = apart_by x y h (span_has x.est (flag_number h.est)) (span_has y.est (flag_number h.est)) (λ e. (fields_in x h e).est) (λ e. (fields_in y h e).est) (apart (flag_number h.est))
 
+  pub apart_dscp : ((v : ℕ) → false ≡ (span_has x.dscp v && span_has y.dscp v)) → (h : Header) → (block_has x h && block_has y h) ≡ false
+  apart_dscp apart h = apart_by x y h (span_has x.dscp h.dscp) (span_has y.dscp h.dscp) (λ e. (fields_in x h e).dscp) (λ e. (fields_in y h e).dscp) (apart h.dscp)
+
 -- there is no common block exactly where there is no common header, since each block has one
 pub none_common : (x y : Block) (r : Option Block) → ((h : Header) → some_has block_has r h ≡ (block_has x h && block_has y h)) → IsNone r ↔ ((h : Header) → (block_has x h && block_has y h) ≡ false)
 none_common x y None exact = (λ _ h. sym (exact h), λ _. refl)
@@ -75,25 +79,29 @@ none_common x y (Some m) exact =
 
 -- ---- one field changed
 
--- Each of six tests may stand last.
-first_last : (s d p a b e : Bool) → (s && d && p && a && b && e) ≡ ((d && p && a && b && e) && s)
-first_last false d p a b e = sym (and_right (d && p && a && b && e) false refl)
-first_last true d p a b e = sym (and_true (d && p && a && b && e))
+-- Each of seven tests may stand last.
+first_last : (s d p a b e c : Bool) → (s && d && p && a && b && e && c) ≡ ((d && p && a && b && e && c) && s)
+first_last false d p a b e c = sym (and_right (d && p && a && b && e && c) false refl)
+first_last true d p a b e c = sym (and_true (d && p && a && b && e && c))
 
-second_last : (s d p a b e : Bool) → (s && d && p && a && b && e) ≡ ((s && p && a && b && e) && d)
-second_last s false p a b e = ap (λ t. t && p && a && b && e) (and_right s false refl) ∙ sym (and_right (s && p && a && b && e) false refl)
-second_last s true p a b e = ap (λ t. t && p && a && b && e) (and_true s) ∙ sym (and_true (s && p && a && b && e))
+second_last : (s d p a b e c : Bool) → (s && d && p && a && b && e && c) ≡ ((s && p && a && b && e && c) && d)
+second_last s false p a b e c = ap (λ t. t && p && a && b && e && c) (and_right s false refl) ∙ sym (and_right (s && p && a && b && e && c) false refl)
+second_last s true p a b e c = ap (λ t. t && p && a && b && e && c) (and_true s) ∙ sym (and_true (s && p && a && b && e && c))
 
-third_last : (s d p a b e : Bool) → (s && d && p && a && b && e) ≡ ((s && d && a && b && e) && p)
-third_last s d false a b e = ap (λ t. t && a && b && e) (and_right (s && d) false refl) ∙ sym (and_right (s && d && a && b && e) false refl)
-third_last s d true a b e = ap (λ t. t && a && b && e) (and_true (s && d)) ∙ sym (and_true (s && d && a && b && e))
+third_last : (s d p a b e c : Bool) → (s && d && p && a && b && e && c) ≡ ((s && d && a && b && e && c) && p)
+third_last s d false a b e c = ap (λ t. t && a && b && e && c) (and_right (s && d) false refl) ∙ sym (and_right (s && d && a && b && e && c) false refl)
+third_last s d true a b e c = ap (λ t. t && a && b && e && c) (and_true (s && d)) ∙ sym (and_true (s && d && a && b && e && c))
 
-fourth_last : (s d p a b e : Bool) → (s && d && p && a && b && e) ≡ ((s && d && p && b && e) && a)
-fourth_last s d p false b e = ap (λ t. t && b && e) (and_right (s && d && p) false refl) ∙ sym (and_right (s && d && p && b && e) false refl)
-fourth_last s d p true b e = ap (λ t. t && b && e) (and_true (s && d && p)) ∙ sym (and_true (s && d && p && b && e))
+fourth_last : (s d p a b e c : Bool) → (s && d && p && a && b && e && c) ≡ ((s && d && p && b && e && c) && a)
+fourth_last s d p false b e c = ap (λ t. t && b && e && c) (and_right (s && d && p) false refl) ∙ sym (and_right (s && d && p && b && e && c) false refl)
+fourth_last s d p true b e c = ap (λ t. t && b && e && c) (and_true (s && d && p)) ∙ sym (and_true (s && d && p && b && e && c))
 
-fifth_last : (s d p a b e : Bool) → (s && d && p && a && b && e) ≡ ((s && d && p && a && e) && b)
-fifth_last s d p a b e = and_swap (s && d && p && a) b e
+fifth_last : (s d p a b e c : Bool) → (s && d && p && a && b && e && c) ≡ ((s && d && p && a && e && c) && b)
+fifth_last s d p a false e c = ap (λ t. t && e && c) (and_right (s && d && p && a) false refl) ∙ sym (and_right (s && d && p && a && e && c) false refl)
+fifth_last s d p a true e c = ap (λ t. t && e && c) (and_true (s && d && p && a)) ∙ sym (and_true (s && d && p && a && e && c))
+
+sixth_last : (s d p a b e c : Bool) → (s && d && p && a && b && e && c) ≡ ((s && d && p && a && b && c) && e)
+sixth_last s d p a b e c = and_swap (s && d && p && a && b) e c
 
 -- the number that the field's pattern is about
 abbrev pub address_number : AddressField → Header → ℕ
@@ -106,30 +114,33 @@ span_number Proto h = h.proto
 span_number A h = h.a
 span_number B h = h.b
 span_number Est h = flag_number h.est
+span_number Dscp h = h.dscp
 
 -- the tests of the other fields
 other_address : AddressField → Block → Header → Bool
-other_address Src b h = ternary_has b.dst h.dst && span_has b.proto h.proto && span_has b.a h.a && span_has b.b h.b && span_has b.est (flag_number h.est)
-other_address Dst b h = ternary_has b.src h.src && span_has b.proto h.proto && span_has b.a h.a && span_has b.b h.b && span_has b.est (flag_number h.est)
+other_address Src b h = ternary_has b.dst h.dst && span_has b.proto h.proto && span_has b.a h.a && span_has b.b h.b && span_has b.est (flag_number h.est) && span_has b.dscp h.dscp
+other_address Dst b h = ternary_has b.src h.src && span_has b.proto h.proto && span_has b.a h.a && span_has b.b h.b && span_has b.est (flag_number h.est) && span_has b.dscp h.dscp
 
 other_span : SpanField → Block → Header → Bool
-other_span Proto b h = ternary_has b.src h.src && ternary_has b.dst h.dst && span_has b.a h.a && span_has b.b h.b && span_has b.est (flag_number h.est)
-other_span A b h = ternary_has b.src h.src && ternary_has b.dst h.dst && span_has b.proto h.proto && span_has b.b h.b && span_has b.est (flag_number h.est)
-other_span B b h = ternary_has b.src h.src && ternary_has b.dst h.dst && span_has b.proto h.proto && span_has b.a h.a && span_has b.est (flag_number h.est)
-other_span Est b h = ternary_has b.src h.src && ternary_has b.dst h.dst && span_has b.proto h.proto && span_has b.a h.a && span_has b.b h.b
+other_span Proto b h = ternary_has b.src h.src && ternary_has b.dst h.dst && span_has b.a h.a && span_has b.b h.b && span_has b.est (flag_number h.est) && span_has b.dscp h.dscp
+other_span A b h = ternary_has b.src h.src && ternary_has b.dst h.dst && span_has b.proto h.proto && span_has b.b h.b && span_has b.est (flag_number h.est) && span_has b.dscp h.dscp
+other_span B b h = ternary_has b.src h.src && ternary_has b.dst h.dst && span_has b.proto h.proto && span_has b.a h.a && span_has b.est (flag_number h.est) && span_has b.dscp h.dscp
+other_span Est b h = ternary_has b.src h.src && ternary_has b.dst h.dst && span_has b.proto h.proto && span_has b.a h.a && span_has b.b h.b && span_has b.dscp h.dscp
+other_span Dscp b h = ternary_has b.src h.src && ternary_has b.dst h.dst && span_has b.proto h.proto && span_has b.a h.a && span_has b.b h.b && span_has b.est (flag_number h.est)
 
 -- the field's test stands beside those of the other fields
 address_apart : (field : AddressField) (b : Block) (h : Header) (p : Ternary) → has_with_address field p b h ≡ (other_address field b h && ternary_has p (address_number field h))
 unfolding has_with_address other_address
-address_apart Src b h p = first_last (ternary_has p h.src) (ternary_has b.dst h.dst) (span_has b.proto h.proto) (span_has b.a h.a) (span_has b.b h.b) (span_has b.est (flag_number h.est))
-address_apart Dst b h p = second_last (ternary_has b.src h.src) (ternary_has p h.dst) (span_has b.proto h.proto) (span_has b.a h.a) (span_has b.b h.b) (span_has b.est (flag_number h.est))
+address_apart Src b h p = first_last (ternary_has p h.src) (ternary_has b.dst h.dst) (span_has b.proto h.proto) (span_has b.a h.a) (span_has b.b h.b) (span_has b.est (flag_number h.est)) (span_has b.dscp h.dscp)
+address_apart Dst b h p = second_last (ternary_has b.src h.src) (ternary_has p h.dst) (span_has b.proto h.proto) (span_has b.a h.a) (span_has b.b h.b) (span_has b.est (flag_number h.est)) (span_has b.dscp h.dscp)
 
 span_apart : (field : SpanField) (b : Block) (h : Header) (s : Span) → has_with_span field s b h ≡ (other_span field b h && span_has s (span_number field h))
 unfolding has_with_span other_span
-span_apart Proto b h s = third_last (ternary_has b.src h.src) (ternary_has b.dst h.dst) (span_has s h.proto) (span_has b.a h.a) (span_has b.b h.b) (span_has b.est (flag_number h.est))
-span_apart A b h s = fourth_last (ternary_has b.src h.src) (ternary_has b.dst h.dst) (span_has b.proto h.proto) (span_has s h.a) (span_has b.b h.b) (span_has b.est (flag_number h.est))
-span_apart B b h s = fifth_last (ternary_has b.src h.src) (ternary_has b.dst h.dst) (span_has b.proto h.proto) (span_has b.a h.a) (span_has s h.b) (span_has b.est (flag_number h.est))
-span_apart Est b h s = refl
+span_apart Proto b h s = third_last (ternary_has b.src h.src) (ternary_has b.dst h.dst) (span_has s h.proto) (span_has b.a h.a) (span_has b.b h.b) (span_has b.est (flag_number h.est)) (span_has b.dscp h.dscp)
+span_apart A b h s = fourth_last (ternary_has b.src h.src) (ternary_has b.dst h.dst) (span_has b.proto h.proto) (span_has s h.a) (span_has b.b h.b) (span_has b.est (flag_number h.est)) (span_has b.dscp h.dscp)
+span_apart B b h s = fifth_last (ternary_has b.src h.src) (ternary_has b.dst h.dst) (span_has b.proto h.proto) (span_has b.a h.a) (span_has s h.b) (span_has b.est (flag_number h.est)) (span_has b.dscp h.dscp)
+span_apart Est b h s = sixth_last (ternary_has b.src h.src) (ternary_has b.dst h.dst) (span_has b.proto h.proto) (span_has b.a h.a) (span_has b.b h.b) (span_has s (flag_number h.est)) (span_has b.dscp h.dscp)
+span_apart Dscp b h s = refl
 
 pub own_address : (field : AddressField) (b : Block) (h : Header) → has_with_address field (address_of field b) b h ≡ block_has b h
 unfolding has_with_address block_has
@@ -150,6 +161,7 @@ own_span Proto b h = refl
 own_span A b h = refl
 own_span B b h = refl
 own_span Est b h = refl
+own_span Dscp b h = refl
 
 -- where the numbers of a pattern are those of two others, so are the headers
 pub address_sum : (field : AddressField) (b : Block) (h : Header) (p q : Ternary) (r : Option Ternary) → ((v : ℕ) → flag_number (ternary_has p v) ≡ flag_number (ternary_has q v) + flag_number (some_has ternary_has r v)) → flag_number (has_with_address field p b h) ≡ flag_number (has_with_address field q b h) + flag_number (some_has (λ t. has_with_address field t b) r h)

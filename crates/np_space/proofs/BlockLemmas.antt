@@ -22,20 +22,22 @@ pub record FieldsIn (block : Block) (h : Header) : Type 0 where
   pub a : span_has block.a h.a ≡ true
   pub b : span_has block.b h.b ≡ true
   pub est : span_has block.est (flag_number h.est) ≡ true
+  pub dscp : span_has block.dscp h.dscp ≡ true
 
 pub fields_in : (b : Block) (h : Header) → block_has b h ≡ true → FieldsIn b h
 unfolding block_has
 fields_in b h has =
-    let est = and_parts _ _ has in
+    let dscp = and_parts _ _ has in
+    let est = and_parts _ _ dscp.0 in
     let ports = and_parts _ _ est.0 in
     let a = and_parts _ _ ports.0 in
     let proto = and_parts _ _ a.0 in
     let addresses = and_parts _ _ proto.0 in
-    record { src = addresses.0; dst = addresses.1; proto = proto.1; a = a.1; b = ports.1; est = est.1 }
+    record { src = addresses.0; dst = addresses.1; proto = proto.1; a = a.1; b = ports.1; est = est.1; dscp = dscp.1 }
 
 pub fields_all : (b : Block) (h : Header) → FieldsIn b h → block_has b h ≡ true
 unfolding block_has
-fields_all b h f = λ i. f.src i && f.dst i && f.proto i && f.a i && f.b i && f.est i
+fields_all b h f = λ i. f.src i && f.dst i && f.proto i && f.a i && f.b i && f.est i && f.dscp i
 
 -- a span has its least number, and none below it
 pub span_has_low : (s : Span) → span_has s s.low ≡ true
@@ -46,7 +48,7 @@ span_low s x has = leb-true s.low x (and_parts _ _ has).0
 
 -- the least header of a block
 abbrev pub least_of : Block → Header
-least_of b = record { src = b.src.value; dst = b.dst.value; proto = b.proto.low; a = b.a.low; b = b.b.low; est = b.est.low == 1 }
+least_of b = record { src = b.src.value; dst = b.dst.value; proto = b.proto.low; a = b.a.low; b = b.b.low; est = b.est.low == 1; dscp = b.dscp.low }
 
 -- a number below 2 is the number of its test
 flag_of : (n : ℕ) → n ≤ 1 → flag_number (n == 1) ≡ n
@@ -65,6 +67,7 @@ has_least b = fields_all b (least_of b) (record {
   a = span_has_low b.a;
   b = span_has_low b.b;
   est = ap (λ n. span_has b.est n) (least_flag b) ∙ span_has_low b.est;
+  dscp = span_has_low b.dscp;
 })
 
 pub least_is : (b : Block) → IsLeast (block_has b) (least_of b)
@@ -73,7 +76,7 @@ least_is b = record {
   least = λ h has.
       let f = fields_in b h has in
       le_by_fields (least_of b) h (least_value b.src h.src f.src) (least_value b.dst h.dst f.dst) (span_low b.proto h.proto f.proto)
-      (span_low b.a h.a f.a) (span_low b.b h.b f.b) (omega (arith, least_flag b, span_low b.est (flag_number h.est) f.est));
+      (span_low b.a h.a f.a) (span_low b.b h.b f.b) (omega (arith, least_flag b, span_low b.est (flag_number h.est) f.est)) (span_low b.dscp h.dscp f.dscp);
 }
 
 -- the fields of a header in a block are numbers of their widths
@@ -86,6 +89,7 @@ block_widths b h has =
       proto = omega (arith, span_high b.proto h.proto f.proto, b.proto_width);
       a = omega (arith, span_high b.a h.a f.a, b.a.width);
       b = omega (arith, span_high b.b h.b f.b, b.b.width);
+      dscp = omega (arith, span_high b.dscp h.dscp f.dscp, b.dscp_width);
     }
   where
     span_high : (s : Span) (x : ℕ) → span_has s x ≡ true → x ≤ s.high

@@ -14,7 +14,7 @@ use Rattle.np_space.specs.declared.headers.Header.{Header}
 use Rattle.np_space.specs.Header.{is_valid_header, IsValid, has_widths, numbers_fit, HasWidths, ValidAsStated, header_order, header_numbers, TieOnlyWhenEqual}
 
 -- a header without addresses, ports or flag is valid for each protocol
-pub valid_bare : (p : ℕ) → p < 256 → IsValid (record { src = 0; dst = 0; proto = p; a = 0; b = 0; est = false })
+pub valid_bare : (p : ℕ) → p < 256 → IsValid (record { src = 0; dst = 0; proto = p; a = 0; b = 0; est = false; dscp = 0 })
 unfolding is_valid_header
 valid_bare p h = grind (arith, nat_tests)
 
@@ -23,7 +23,8 @@ pub valid_widths : (h : Header) → IsValid h → HasWidths h
 unfolding is_valid_header
 valid_widths h valid =
     let widths = (and_parts _ _ (and_parts _ _ valid).0).0 in
-    let before_b = and_parts _ _ widths in
+    let before_dscp = and_parts _ _ widths in
+    let before_b = and_parts _ _ before_dscp.0 in
     let before_a = and_parts _ _ before_b.0 in
     let before_proto = and_parts _ _ before_a.0 in
     let addresses = and_parts _ _ before_proto.0 in
@@ -33,11 +34,12 @@ valid_widths h valid =
       proto = ltb-true h.proto (2 ^ 8) before_proto.1;
       a = ltb-true h.a (2 ^ 16) before_a.1;
       b = ltb-true h.b (2 ^ 16) before_b.1;
+      dscp = ltb-true h.dscp (2 ^ 6) before_dscp.1;
     }
 
 widths_valid : (h : Header) → HasWidths h → has_widths h ≡ true
 widths_valid h w = λ i.
-    lt-ltb h.src (2 ^ 32) w.src i && lt-ltb h.dst (2 ^ 32) w.dst i && lt-ltb h.proto (2 ^ 8) w.proto i && lt-ltb h.a (2 ^ 16) w.a i && lt-ltb h.b (2 ^ 16) w.b i
+    lt-ltb h.src (2 ^ 32) w.src i && lt-ltb h.dst (2 ^ 32) w.dst i && lt-ltb h.proto (2 ^ 8) w.proto i && lt-ltb h.a (2 ^ 16) w.a i && lt-ltb h.b (2 ^ 16) w.b i && lt-ltb h.dscp (2 ^ 6) w.dscp i
 
 flag_rule : (p : ℕ) (e : Bool) → (p == 6 || not e) ≡ true → e ≡ true → p ≡ 6
 flag_rule p e h f = grind (arith, nat_tests)
@@ -122,5 +124,6 @@ order_ties x y h =
     let a : x.a ≡ y.a = cc in
     let b : x.b ≡ y.b = cc in
     let flag : flag_number x.est ≡ flag_number y.est = cc in
+    let dscp : x.dscp ≡ y.dscp = cc in
     let est = flags_tied x.est y.est flag in
-    λ i. record { src = src i; dst = dst i; proto = proto i; a = a i; b = b i; est = est i }
+    λ i. record { src = src i; dst = dst i; proto = proto i; a = a i; b = b i; est = est i; dscp = dscp i }

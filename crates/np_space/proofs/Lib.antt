@@ -1,8 +1,11 @@
 pub mod AlgebraLemmas
 pub mod BitLemmas
+pub mod BitOrderLaws
 pub mod BlockLemmas
+pub mod ClassLaws
 pub mod FlagLemmas
 pub mod HeaderLemmas
+pub mod MadeLemmas
 pub mod OrderLemmas
 pub mod PatternLemmas
 pub mod ValidLemmas

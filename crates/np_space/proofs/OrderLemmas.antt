@@ -64,7 +64,7 @@ first_le m n o le rest = by (nat_cmp m n) (ranked m n (nat_cmp m n) refl)
     by Equal e = rest
     by Greater gt = absurd (omega arith)
 
-pub le_by_fields : (x y : Header) → x.src ≤ y.src → x.dst ≤ y.dst → x.proto ≤ y.proto → x.a ≤ y.a → x.b ≤ y.b → flag_number x.est ≤ flag_number y.est → header_le x y ≡ true
+pub le_by_fields : (x y : Header) → x.src ≤ y.src → x.dst ≤ y.dst → x.proto ≤ y.proto → x.a ≤ y.a → x.b ≤ y.b → flag_number x.est ≤ flag_number y.est → x.dscp ≤ y.dscp → header_le x y ≡ true
 unfolding header_le header_order
-le_by_fields x y src dst proto a b est =
-    first_le x.src y.src _ src (first_le x.dst y.dst _ dst (first_le x.proto y.proto _ proto (first_le x.a y.a _ a (first_le x.b y.b _ b (first_le (flag_number x.est) (flag_number y.est) _ est refl)))))
+le_by_fields x y src dst proto a b est dscp =
+    first_le x.src y.src _ src (first_le x.dst y.dst _ dst (first_le x.proto y.proto _ proto (first_le x.a y.a _ a (first_le x.b y.b _ b (first_le (flag_number x.est) (flag_number y.est) _ est (first_le x.dscp y.dscp _ dscp refl))))))

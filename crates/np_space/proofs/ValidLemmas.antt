@@ -1,11 +1,10 @@
 -- The seven blocks have exactly the valid headers, each of them once: one lemma for each range of
 -- protocols.
-use Rattle.std.proofs.Common.{◌≡◌, ℕ, ◌+◌, ◌<◌, ◌≤◌, ◌^◌, Bool, true, false, List, [], ◌∷◌, refl, sym, subst, ◌∙◌, ap, arith, inl, inr, nat_le, nat_lt}
+use Rattle.std.proofs.Common.{◌≡◌, ℕ, ◌+◌, ◌≤◌, ◌^◌, Bool, true, false, List, [], ◌∷◌, refl, sym, subst, ◌∙◌, ap, arith, inl, inr, nat_le, nat_lt}
 use Rattle.std.specs.Prelude.{◌&&◌, ◌||◌, not, ◌==◌}
-use Rattle.std.proofs.lemmas.Bool.{cases_lt, lt-ltb, ltb-true}
+use Rattle.std.proofs.lemmas.Bool.{cases_lt, and_right}
 use Rattle.std.proofs.lemmas.Bool.Decides.{nat_tests}
-use Rattle.np_space.specs.Bit.{has_bit}
-use Rattle.np_space.specs.Flag.{flag_number, same_flag}
+use Rattle.np_space.specs.Flag.{flag_number}
 use Rattle.np_space.specs.Header.{is_valid_header, numbers_fit}
 use Rattle.np_space.specs.Span.{span_has}
 use Rattle.np_space.specs.Ternary.{pattern_has, ternary_has}
@@ -15,11 +14,10 @@ use Rattle.np_space.specs.Block.{block_has, block_numbers, anywhere, count_havin
 use Rattle.np_space.specs.declared.headers.Header.{Header}
 use Rattle.np_space.specs.declared.blocks.Block.{Block}
 use Rattle.np_space.proofs.AlgebraLemmas.{count_none, count_cons, any_from_count, disjoint_from_count}
-use Rattle.np_space.proofs.BitLemmas.{bit-not, bit-zero}
-use Rattle.np_space.proofs.FlagLemmas.{same_answers, flag_small}
-use Rattle.np_space.proofs.PatternLemmas.{pattern_from, pattern_width}
+use Rattle.np_space.proofs.FlagLemmas.{and_true, flag_small}
+use Rattle.np_space.proofs.MadeLemmas.{widest_has}
 
--- the test of the fields behind the addresses
+-- the test of the fields between the addresses and the code point
 abbrev part : ℕ → ℕ → ℕ → ℕ → ℕ → ℕ → ℕ → ℕ → Bool
 part first last most flags p a b e = (nat_le first p && nat_le p last) && (nat_le 0 a && nat_le a most) && (nat_le 0 b && nat_le b most) && (nat_le 0 e && nat_le e flags)
 
@@ -29,7 +27,7 @@ parts p a b e =
     flag_number (part 0 0 0 0 p a b e) + flag_number (part 1 1 255 0 p a b e) + flag_number (part 2 5 0 0 p a b e) + flag_number (part 6 6 65535 1 p a b e)
     + flag_number (part 7 16 0 0 p a b e) + flag_number (part 17 17 65535 0 p a b e) + flag_number (part 18 255 0 0 p a b e)
 
--- what else than the widths of the addresses makes a header valid
+-- what else than the widths of the addresses and of the code point makes a header valid
 abbrev fits : ℕ → ℕ → ℕ → Bool → Bool
 fits p a b e = (nat_lt p 256 && nat_lt a 65536 && nat_lt b 65536) && (p == 6 || not e) && numbers_fit p a b
 
@@ -94,28 +92,19 @@ parts_fit p a b e =
     at : (n : ℕ) → n ≡ p → parts n a b (flag_number e) ≡ flag_number (fits n a b e) → parts p a b (flag_number e) ≡ flag_number (fits p a b e)
     at n same claim = let Claim : ℕ → Type 0 = λ n. parts n a b (flag_number e) ≡ flag_number (fits n a b e) in subst Claim same claim
 
--- every number of 32 bits is in the pattern without fixed bits
-any_address : (x : ℕ) → pattern_has 0 0xffff_ffff x ≡ nat_lt x (2 ^ 32)
-any_address x =
-    same_answers (pattern_has 0 0xffff_ffff x) (nat_lt x (2 ^ 32))
-    (λ has. lt-ltb x (2 ^ 32) (pattern_width 0 0xffff_ffff x has))
-    (λ lt. pattern_from 0 0xffff_ffff x (ltb-true x (2 ^ 32) lt) (λ i l. ap (λ t. t || same_flag (has_bit x i) (has_bit 0 i)) (wild i l)))
-  where
-    wild : (i : ℕ) → i < 32 → has_bit 0xffff_ffff i ≡ true
-    wild i l = bit-not 0 i (omega arith) l ∙ ap not (bit-zero i)
-
+-- every number of 32 bits is in a pattern without fixed bits
 any_of : (p : Ternary) (x : ℕ) → p.value ≡ 0 → p.wild ≡ 0xffff_ffff → ternary_has p x ≡ nat_lt x (2 ^ 32)
-any_of p x value wild = (λ i. pattern_has (value i) (wild i) x) ∙ any_address x
+any_of p x value wild = (λ i. pattern_has (value i) (wild i) x) ∙ widest_has x
 
 numbers_of : (s : Span) (low high x : ℕ) → s.low ≡ low → s.high ≡ high → span_has s x ≡ (nat_le low x && nat_le x high)
 numbers_of s low high x l h = λ i. nat_le (l i) x && nat_le x (h i)
 
--- the widths of the addresses
-abbrev addresses_fit : Header → Bool
-addresses_fit h = nat_lt h.src (2 ^ 32) && nat_lt h.dst (2 ^ 32)
+-- the widths of the addresses and of the code point
+abbrev others_fit : Header → Bool
+others_fit h = (nat_lt h.src (2 ^ 32) && nat_lt h.dst (2 ^ 32)) && nat_lt h.dscp (2 ^ 6)
 
 -- what a block with such numbers has
-anywhere_has : (b : Block) (h : Header) (first last most flags : ℕ) → block_numbers b ≡ anywhere first last most flags → block_has b h ≡ (addresses_fit h && part first last most flags h.proto h.a h.b (flag_number h.est))
+anywhere_has : (b : Block) (h : Header) (first last most flags : ℕ) → block_numbers b ≡ anywhere first last most flags → block_has b h ≡ (others_fit h && part first last most flags h.proto h.a h.b (flag_number h.est))
 unfolding block_has
 anywhere_has b h first last most flags e =
     let src_value : b.src.value ≡ 0 = cc in
@@ -130,23 +119,30 @@ anywhere_has b h first last most flags e =
     let b_high : b.b.high ≡ most = cc in
     let est_low : b.est.low ≡ 0 = cc in
     let est_high : b.est.high ≡ flags = cc in
+    let dscp_low : b.dscp.low ≡ 0 = cc in
+    let dscp_high : b.dscp.high ≡ 63 = cc in
     regroup (any_of b.src h.src src_value src_wild) (any_of b.dst h.dst dst_value dst_wild) (numbers_of b.proto first last h.proto proto_low proto_high)
-    (numbers_of b.a 0 most h.a a_low a_high) (numbers_of b.b 0 most h.b b_low b_high) (numbers_of b.est 0 flags (flag_number h.est) est_low est_high)
+    (numbers_of b.a 0 most h.a a_low a_high) (numbers_of b.b 0 most h.b b_low b_high) (numbers_of b.est 0 flags (flag_number h.est) est_low est_high) (numbers_of b.dscp 0 63 h.dscp dscp_low dscp_high ∙ code_points h.dscp)
   where
-    group : (w p a b e : Bool) → (w && p && a && b && e) ≡ (w && (p && a && b && e))
-    group false p a b e = refl
-    group true p a b e = refl
+    code_points : (n : ℕ) → (nat_le 0 n && nat_le n 63) ≡ nat_lt n 64
+    code_points n = grind (arith, nat_tests)
 
-    regroup : {s t d u p q a c b f e g : Bool} → s ≡ t → d ≡ u → p ≡ q → a ≡ c → b ≡ f → e ≡ g → (s && d && p && a && b && e) ≡ ((t && u) && (q && c && f && g))
-    regroup {t = t} {u = u} {q = q} {c = c} {f = f} {g = g} hs hd hp ha hb he = (λ i. hs i && hd i && hp i && ha i && hb i && he i) ∙ group (t && u) q c f g
+    group : (w p a b e c : Bool) → (w && p && a && b && e && c) ≡ ((w && c) && (p && a && b && e))
+    group false p a b e c = refl
+    group true p a b e false = and_right (p && a && b && e) false refl
+    group true p a b e true = and_true (p && a && b && e)
 
-valid_is : (h : Header) → is_valid_header h ≡ (addresses_fit h && fits h.proto h.a h.b h.est)
+    regroup : {s t d u p q a c b f e g m n : Bool} → s ≡ t → d ≡ u → p ≡ q → a ≡ c → b ≡ f → e ≡ g → m ≡ n → (s && d && p && a && b && e && m) ≡ (((t && u) && n) && (q && c && f && g))
+    regroup {t = t} {u = u} {q = q} {c = c} {f = f} {g = g} {n = n} hs hd hp ha hb he hm = (λ i. hs i && hd i && hp i && ha i && hb i && he i && hm i) ∙ group (t && u) q c f g n
+
+valid_is : (h : Header) → is_valid_header h ≡ (others_fit h && fits h.proto h.a h.b h.est)
 unfolding is_valid_header
-valid_is h = regroup (addresses_fit h) (nat_lt h.proto 256) (nat_lt h.a 65536) (nat_lt h.b 65536) (h.proto == 6 || not h.est) (numbers_fit h.proto h.a h.b)
+valid_is h = regroup (nat_lt h.src (2 ^ 32) && nat_lt h.dst (2 ^ 32)) (nat_lt h.dscp 64) (nat_lt h.proto 256) (nat_lt h.a 65536) (nat_lt h.b 65536) (h.proto == 6 || not h.est) (numbers_fit h.proto h.a h.b)
   where
-    regroup : (w p a b e n : Bool) → ((w && p && a && b) && e && n) ≡ (w && ((p && a && b) && e && n))
-    regroup false p a b e n = refl
-    regroup true p a b e n = refl
+    regroup : (w c p a b e n : Bool) → ((w && p && a && b && c) && e && n) ≡ ((w && c) && ((p && a && b) && e && n))
+    regroup false c p a b e n = refl
+    regroup true false p a b e n = ap (λ t. t && e && n) (and_right (p && a && b) false refl)
+    regroup true true p a b e n = ap (λ t. t && e && n) (and_true (p && a && b))
 
 -- the seven blocks count each valid header once
 pub valid_once : (b0 b1 b2 b3 b4 b5 b6 : Block) → block_numbers b0 ≡ anywhere 0 0 0 0 → block_numbers b1 ≡ anywhere 1 1 255 0 → block_numbers b2 ≡ anywhere 2 5 0 0 → block_numbers b3 ≡ anywhere 6 6 65535 1 → block_numbers b4 ≡ anywhere 7 16 0 0 → block_numbers b5 ≡ anywhere 17 17 65535 0 → block_numbers b6 ≡ anywhere 18 255 0 0 → (h : Header) → count_having (b0 ∷ b1 ∷ b2 ∷ b3 ∷ b4 ∷ b5 ∷ b6 ∷ []) h ≡ flag_number (is_valid_header h)
@@ -159,7 +155,7 @@ valid_once b0 b1 b2 b3 b4 b5 b6 e0 e1 e2 e3 e4 e5 e6 h =
     ∙ (λ i. flag_number (anywhere_has b4 h 7 16 0 0 e4 i) + (count_cons (b6 ∷ []) b5 h
     ∙ (λ i. flag_number (anywhere_has b5 h 17 17 65535 0 e5 i) + (count_cons [] b6 h
     ∙ (λ i. flag_number (anywhere_has b6 h 18 255 0 0 e6 i) + count_none h i)) i)) i)) i)) i)) i)) i)
-    ∙ all (addresses_fit h) h.proto h.a h.b h.est
+    ∙ all (others_fit h) h.proto h.a h.b h.est
     ∙ ap flag_number (sym (valid_is h))
   where
     all : (w : Bool) (p a b : ℕ) (e : Bool) → flag_number (w && part 0 0 0 0 p a b (flag_number e)) + (flag_number (w && part 1 1 255 0 p a b (flag_number e)) + (flag_number (w && part 2 5 0 0 p a b (flag_number e)) + (flag_number (w && part 6 6 65535 1 p a b (flag_number e)) + (flag_number (w && part 7 16 0 0 p a b (flag_number e)) + (flag_number (w && part 17 17 65535 0 p a b (flag_number e)) + (flag_number (w && part 18 255 0 0 p a b (flag_number e)) + 0)))))) ≡ flag_number (w && fits p a b e)

@@ -2,5 +2,8 @@ pub mod Flag
 pub mod Header
 pub mod Span
 pub mod Bit
+pub mod Bits
 pub mod Ternary
+pub mod Patterns
 pub mod Block
+pub mod Classes

@@ -1,5 +1,6 @@
--- What a span has.
-use Rattle.std.specs.Prelude.{ℕ, ◌≤◌, Bool, ◌&&◌, nat_le}
+-- What a span has, and the spans that two numbers make.
+use Rattle.std.specs.Prelude.{ℕ, ◌<◌, ◌≤◌, ◌^◌, Bool, ◌&&◌, min, nat_le, Option, Some, None, if◌then◌else◌}
+use Rattle.std.proofs.Common.{arith}
 use Rattle.np_space.specs.declared.spans.Span.{Span}
 
 -- the numbers from `low` to `high`, both among them
@@ -10,3 +11,18 @@ span_has s x = nat_le s.low x && nat_le x s.high
 pub record IsPartOf (part whole : Span) : Type 0 where
   pub low : whole.low ≤ part.low
   pub high : part.high ≤ whole.high
+
+pub span_ordered : (low high : ℕ) → min low high ≤ high
+span_ordered low high = omega arith
+
+pub span_below : (high : ℕ) → min high 65535 < 2 ^ 16
+span_below high = omega arith
+
+-- the numbers from `low` to `high`, where `low` is at most `high` and `high` at most 65535
+unfoldable pub span_from : ℕ → ℕ → Span
+span_from low high =
+    record { low = min low (min high 65535); high = min high 65535; ordered = span_ordered low (min high 65535); width = span_below high }
+
+-- the numbers from `low` to `high`, if there are any
+abbrev pub span_between : ℕ → ℕ → Option Span
+span_between low high = if nat_le low high then Some (span_from low high) else None

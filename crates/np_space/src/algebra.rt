@@ -27,6 +27,7 @@ pub fn meet(x: &Block, y: &Block) -> Option<Block>
         a: x.a.meet(&y.a)?,
         b: x.b.meet(&y.b)?,
         est: x.est.meet(&y.est)?,
+        dscp: x.dscp.meet(&y.dscp)?,
     })
 }
 
@@ -113,7 +114,7 @@ fn push_numbers(
 fn outside(alloc: Global, whole: &Block, part: &Block) -> Result<Vec<Block>, AllocError>
     requires { IsInside part.now whole.now }
     ensures exact { IfOk result (λ v. HasMoved (block_has whole.now) (block_has part.now) [] v.items) }
-    ensures bound { IfOk result (λ v. vec_len v ≤ 71) }
+    ensures bound { IfOk result (λ v. vec_len v ≤ 73) }
 {
     let mut pieces = Vec::new(alloc);
     let mut rest = *whole;
@@ -128,17 +129,19 @@ fn outside(alloc: Global, whole: &Block, part: &Block) -> Result<Vec<Block>, All
     push_numbers(&mut pieces, &rest, SpanField::B, &part.b)?;
     rest.b = part.b;
     push_numbers(&mut pieces, &rest, SpanField::Est, &part.est)?;
+    rest.est = part.est;
+    push_numbers(&mut pieces, &rest, SpanField::Dscp, &part.dscp)?;
     Ok(pieces)
 }
 
-/// The headers of `x` that `y` hasn't, as at most 71 blocks of which no two have a header in
+/// The headers of `x` that `y` hasn't, as at most 73 blocks of which no two have a header in
 /// common: `x` alone where the blocks don't meet, and no block where `y` has all of `x`. Fails only
 /// for want of memory.
 pub fn minus(alloc: Global, x: &Block, y: &Block) -> Result<Vec<Block>, AllocError>
     ensures once { IfOk result (λ v. (h : Header) → count_having v.items h ≡ flag_number (block_has x.now h && not (block_has y.now h))) }
     ensures together { IfOk result (λ v. (h : Header) → any_has v.items h ≡ (block_has x.now h && not (block_has y.now h))) }
     ensures disjoint { IfOk result (λ v. AreDisjoint v.items) }
-    ensures bound { IfOk result (λ v. vec_len v ≤ 71) }
+    ensures bound { IfOk result (λ v. vec_len v ≤ 73) }
     ensures empty { IfOk result (λ v. (v.items ≡ []) ↔ ((h : Header) → IsTrue (block_has x.now h) → IsTrue (block_has y.now h))) }
     ensures alone { IfOk result (λ v. ((h : Header) → (block_has x.now h && block_has y.now h) ≡ false) → v.items ≡ x.now ∷ []) }
 {

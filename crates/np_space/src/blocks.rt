@@ -22,8 +22,11 @@ pub struct Block {
     pub b: Span,
     /// Whether a connection is established: 0 for no and 1 for yes.
     pub est: Span,
+    /// The differentiated services code points, at most 63.
+    pub dscp: Span,
     ghost proto_width: { proto.high ≤ 255 },
     ghost est_width: { est.high ≤ 1 },
+    ghost dscp_width: { dscp.high ≤ 63 },
 }
 
 // A field of a block that has a pattern.
@@ -40,13 +43,33 @@ pub(crate) enum SpanField {
     A,
     B,
     Est,
+    Dscp,
 }
 
 impl Block {
     ghost use Rattle.std.specs.Prelude.{ℕ};
-    ghost use Rattle.np_space.specs.Header.{IsLeast};
-    ghost use Rattle.np_space.specs.Block.{block_has, address_of, span_of, has_with_address, has_with_span};
+    ghost use Rattle.np_space.specs.Header.{IsLeast, has_widths};
+    ghost use Rattle.np_space.specs.Block.{everything, block_has, address_of, span_of, has_with_address, has_with_span};
     ghost use Rattle.np_space.specs.declared.headers.Header.{Header};
+
+    /// The block of the headers whose fields are of their widths: all addresses, the protocols to 255,
+    /// all numbers in `a` and `b`, `est` set or not, and the code points to 63.
+    pub fn everything() -> Block
+        ensures is { result ≡ everything }
+        ensures has { (h : Header) → block_has result h ≡ has_widths h }
+    {
+        let any = Ternary::any();
+        let numbers = Span::from_to(0, u16::MAX);
+        Block {
+            src: any,
+            dst: any,
+            proto: Span::from_to(0, 255),
+            a: numbers,
+            b: numbers,
+            est: Span::from_to(0, 1),
+            dscp: Span::from_to(0, 63),
+        }
+    }
 
     /// Whether each field of the header is in the field's pattern or span; `est` counts as 0 or 1.
     #[tactic(auto, unfolding(crate::specs::Block::block_has))]
@@ -59,6 +82,7 @@ impl Block {
             && self.a.has(h.a)
             && self.b.has(h.b)
             && self.est.has(u16::from(h.est))
+            && self.dscp.has(u16::from(h.dscp))
     }
 
     /// The least header that the block has, by `order`, valid or not.
@@ -72,6 +96,7 @@ impl Block {
             a: self.a.low,
             b: self.b.low,
             est: self.est.low == 1,
+            dscp: self.dscp.low as u8,
         }
     }
 
@@ -94,6 +119,7 @@ impl Block {
             SpanField::A => self.a,
             SpanField::B => self.b,
             SpanField::Est => self.est,
+            SpanField::Dscp => self.dscp,
         }
     }
 
@@ -122,6 +148,7 @@ impl Block {
             SpanField::A => block.a = span,
             SpanField::B => block.b = span,
             SpanField::Est => block.est = span,
+            SpanField::Dscp => block.dscp = span,
         }
         block
     }

@@ -3,7 +3,8 @@
 ghost use Rattle.std.specs.Prelude.{◌≡◌, ◌<◌, ◌^◌, bit_and};
 
 /// The numbers that agree with `value` on each bit that isn't set in `wild`. This is the address
-/// and wildcard of Cisco's access lists; the wild bits need not be next to each other.
+/// and wildcard of Cisco's access lists (Cisco IOS, command `access-list`; Guttman and Herzog 2005);
+/// the wild bits need not be next to each other.
 #[derive(Clone, Copy, Debug, PartialEq, Eq)]
 pub struct Ternary {
     /// The bits to agree with; 0 on each wild bit.
@@ -16,13 +17,48 @@ pub struct Ternary {
 }
 
 impl Ternary {
-    ghost use Rattle.std.specs.Prelude.{ℕ, ◌+◌, ◌≢◌, ◌&&◌, IfSome};
+    ghost use Rattle.std.specs.Prelude.{ℕ, ◌+◌, ◌≤◌, ◌≢◌, ◌&&◌, ◌==◌, nat_lt, IfSome, IsTrue};
     ghost use Rattle.np_space.specs.Bit.{has_bit};
     ghost use Rattle.np_space.specs.Flag.{flag_number, some_has};
     ghost use Rattle.np_space.specs.Ternary.{ternary_has, pattern_has, IsNarrower, SameBit};
+    ghost use Rattle.np_space.specs.Patterns.{any_address, host, is_prefix, pattern, prefix_pattern};
+
+    /// Every address.
+    pub fn any() -> Ternary
+        ensures is { result ≡ any_address }
+        ensures has { (x : ℕ) → ternary_has result x ≡ nat_lt x (2 ^ 32) }
+    {
+        Ternary {
+            value: 0,
+            wild: u32::MAX,
+        }
+    }
+
+    /// One address.
+    pub fn host(address: u32) -> Ternary
+        ensures is { result ≡ host address }
+        ensures has { (x : ℕ) → ternary_has result x ≡ x == address }
+    {
+        Ternary::of(address, 0)
+    }
+
+    /// The addresses that have the first `length` bits of the address: a prefix, as RFC 4632 writes it.
+    /// The length is at most 32.
+    pub fn prefix(address: u32, length: u8) -> Ternary
+        requires { length ≤ 32 }
+        ensures is { result ≡ prefix_pattern address length }
+        ensures prefix { IsTrue (is_prefix result) }
+    {
+        let unit = 1u64 << (32 - length);
+        Ternary {
+            value: (u64::from(address) / unit * unit) as u32,
+            wild: (unit - 1) as u32,
+        }
+    }
 
     /// The pattern of this value and these wild bits, whatever the value has there.
     pub fn of(value: u32, wild: u32) -> Ternary
+        ensures is { result ≡ pattern value wild }
         ensures exact { (x : ℕ) → ternary_has result x ≡ pattern_has value wild x }
         ensures wild { result.wild ≡ wild }
     {

@@ -14,9 +14,38 @@ pub struct Span {
 }
 
 impl Span {
-    ghost use Rattle.std.specs.Prelude.{ℕ, ◌+◌, ◌&&◌, is_some, IfSome, nat_lt};
+    ghost use Rattle.std.specs.Prelude.{ℕ, ◌+◌, ◌&&◌, ◌==◌, is_some, IfSome, nat_lt};
     ghost use Rattle.np_space.specs.Flag.{flag_number, some_has};
-    ghost use Rattle.np_space.specs.Span.{span_has, IsPartOf};
+    ghost use Rattle.np_space.specs.Span.{span_has, span_from, span_between, IsPartOf};
+
+    /// The numbers from `low` to `high`. Where `low` is greater, `high` alone.
+    pub fn from_to(low: u16, high: u16) -> Span
+        ensures { result ≡ span_from low high }
+    {
+        Span {
+            low: low.min(high),
+            high,
+        }
+    }
+
+    /// One number.
+    pub fn only(number: u16) -> Span
+        ensures is { result ≡ span_from number number }
+        ensures has { (x : ℕ) → span_has result x ≡ x == number }
+    {
+        Span::from_to(number, number)
+    }
+
+    /// The numbers from `low` to `high`, if there are any: `None` exactly where `low` is greater.
+    pub fn between(low: u16, high: u16) -> Option<Span>
+        ensures { result ≡ span_between low high }
+    {
+        if low <= high {
+            Some(Span::from_to(low, high))
+        } else {
+            None
+        }
+    }
 
     /// Whether the number is in the span.
     pub fn has(&self, x: u16) -> bool

@@ -10,17 +10,14 @@ use crate::blocks::Block;
 use crate::patterns::Ternary;
 use crate::spans::Span;
 
-// Any addresses, the protocols from `first` to `last`, and the numbers up to `most` in `a` and `b`
-// and up to `flags` in `est`.
+// Any addresses and code points, the protocols from `first` to `last`, and the numbers up to `most`
+// in `a` and `b` and up to `flags` in `est`.
 fn block_anywhere(first: u8, last: u8, most: u16, flags: u16) -> Block
     requires ordered { first ≤ last }
     requires flags { flags ≤ 1 }
     ensures { block_numbers result ≡ anywhere first last most flags }
 {
-    let any = Ternary {
-        value: 0,
-        wild: u32::MAX,
-    };
+    let any = Ternary::any();
     let numbers = Span { low: 0, high: most };
     Block {
         src: any,
@@ -35,12 +32,13 @@ fn block_anywhere(first: u8, last: u8, most: u16, flags: u16) -> Block
             low: 0,
             high: flags,
         },
+        dscp: Span { low: 0, high: 63 },
     }
 }
 
 /// The seven blocks of the valid headers, of which no two have a header in common: with any
-/// addresses the protocols 0; 1 with types and codes up to 255; 2 to 5; 6 with any ports and `est`;
-/// 7 to 16; 17 with any ports; 18 to 255.
+/// addresses and any code point the protocols 0; 1 with types and codes up to 255; 2 to 5; 6 with any
+/// ports and `est`; 7 to 16; 17 with any ports; 18 to 255. The protocols' numbers are IANA's.
 pub fn valid_blocks() -> [Block; 7]
     ensures listed { map block_numbers result ≡ valid_table }
     ensures once { (h : Header) → count_having result h ≡ flag_number (is_valid_header h) }

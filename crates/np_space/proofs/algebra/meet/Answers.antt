@@ -1,5 +1,5 @@
 use Rattle.std.specs.Prelude.{Some}
-use Rattle.np_space.proofs.AlgebraLemmas.{fields_meet, none_common, none_exact, apart_src, apart_dst, apart_proto, apart_a, apart_b, apart_est}
+use Rattle.np_space.proofs.AlgebraLemmas.{fields_meet, none_common, none_exact, apart_src, apart_dst, apart_proto, apart_a, apart_b, apart_est, apart_dscp}
 use Rattle.np_space.proofs.algebra.meet.Goals as goal
 
 pub returns-in_err-meet-clause-exact : goal.returns-in_err-meet-clause-exact
@@ -44,10 +44,17 @@ pub returns-in_err-meet-6-clause-none : goal.returns-in_err-meet-6-clause-none
 returns-in_err-meet-6-clause-none c =
     none_common c.args.x.now c.args.y.now c.from_residual-in_err-meet-6.result (none_exact c.args.x.now c.args.y.now c.from_residual-in_err-meet-6.result c.from_residual-in_err-meet-6.ensures (apart_est c.args.x.now c.args.y.now c.in_err-meet-6.ensures.exact))
 
+pub returns-in_err-meet-7-clause-exact : goal.returns-in_err-meet-7-clause-exact
+returns-in_err-meet-7-clause-exact c = none_exact c.args.x.now c.args.y.now c.from_residual-in_err-meet-7.result c.from_residual-in_err-meet-7.ensures (apart_dscp c.args.x.now c.args.y.now c.in_err-meet-7.ensures.exact)
+
+pub returns-in_err-meet-7-clause-none : goal.returns-in_err-meet-7-clause-none
+returns-in_err-meet-7-clause-none c =
+    none_common c.args.x.now c.args.y.now c.from_residual-in_err-meet-7.result (none_exact c.args.x.now c.args.y.now c.from_residual-in_err-meet-7.result c.from_residual-in_err-meet-7.ensures (apart_dscp c.args.x.now c.args.y.now c.in_err-meet-7.ensures.exact))
+
 pub returns-clause-exact : goal.returns-clause-exact
 returns-clause-exact c =
     fields_meet c.args.x.now c.args.y.now _
-    c.in_ok-meet.ensures.exact c.in_ok-meet-2.ensures.exact c.in_ok-meet-3.ensures.exact c.in_ok-meet-4.ensures.exact c.in_ok-meet-5.ensures.exact c.in_ok-meet-6.ensures.exact
+    c.in_ok-meet.ensures.exact c.in_ok-meet-2.ensures.exact c.in_ok-meet-3.ensures.exact c.in_ok-meet-4.ensures.exact c.in_ok-meet-5.ensures.exact c.in_ok-meet-6.ensures.exact c.in_ok-meet-7.ensures.exact
 
 pub returns-clause-none : goal.returns-clause-none
 returns-clause-none c =

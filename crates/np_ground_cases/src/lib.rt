@@ -1,2 +1,5 @@
 //! Tests of the ground layer: texts, lines, headers, regions and atoms.
 #![tactic(auto)]
+
+#[cfg(test)]
+mod text;

@@ -1,27 +1,35 @@
-ghost use Rattle.std.specs.Prelude.{◌<◌, length};
-ghost use Rattle.np_region.specs.Keeping.{EachFits};
-ghost use Rattle.np_atomizer.specs.Atoms.{atoms_in};
+//! Atoms of cuts over the plain store.
 
-use super::*;
+ghost use Rattle.std.specs.Prelude.{◌≡◌, ◌<◌, ◌≤◌, [], length, slice_index_or};
+ghost use Rattle.np_region.specs.Keeping.{EachFits};
+ghost use Rattle.np_atomizer.specs.Atoms.{atoms_in, answers_of};
+
+use np_atomizer::{Atoms, atomize};
 use np_region::{BlockLists, Regions};
-use np_space::{Block, Header, Span, is_valid, valid_blocks};
+use np_space::{Block, Span, is_valid, valid_blocks};
 use std::alloc::{AllocError, Global};
 use std::test::Fail;
 
 // An atom as a line: the fields of its least member, and what each cut answers.
-fn line<R: Drop>(alloc: Global, atoms: &Atoms<R>, n: usize) -> Result<String, AllocError>
-    requires { n < length (atoms_in atoms.now) }
+fn line<R: Drop>(
+    alloc: Global,
+    atoms: &Atoms<R>,
+    n: usize,
+    cuts: usize,
+) -> Result<String, AllocError>
+    requires atom { n < length (atoms_in atoms.now) }
+    requires cuts { length (slice_index_or (answers_of (atoms_in atoms.now)) n []) ≡ cuts }
 {
     let h = atoms.least(n);
     let est = u8::from(h.est);
-    let mut text = format!(in alloc; "{} {} {} {} {} {est} ", h.src, h.dst, h.proto, h.a, h.b)?;
-    for cut in 0..atoms.atoms[n].answers.len() {
+    let mut text = format!(in alloc; "{} {} {} {} {} {est} {} ", h.src, h.dst, h.proto, h.a, h.b, h.dscp)?;
+    for cut in 0..cuts {
         text.push_str(if atoms.answer(n, cut) { "1" } else { "0" })?;
     }
     Ok(text)
 }
 
-// Each atom's line; "!" behind one whose least member is not found in the atom itself, is not the least
+// Each atom's line; "!" after one whose least member is not found in the atom itself, is not the least
 // of its region, or stands elsewhere in the list.
 fn table<S: Regions>(alloc: Global, store: &mut S, cuts: &[S::R]) -> Result<String, AllocError>
     requires { EachFits S.fits store.old cuts.now }
@@ -30,7 +38,7 @@ fn table<S: Regions>(alloc: Global, store: &mut S, cuts: &[S::R]) -> Result<Stri
     let leasts = atoms.leasts(alloc)?;
     let mut text = String::new(alloc);
     for n in 0..atoms.len() {
-        text.push_str(line(alloc, &atoms, n)?.as_str())?;
+        text.push_str(line(alloc, &atoms, n, cuts.len())?.as_str())?;
         let least = atoms.least(n);
         let found = is_valid(&least) && atoms.atom_of(store, &least) == n;
         let own = store.least(atoms.region(n)) == Some(least);
@@ -42,21 +50,22 @@ fn table<S: Regions>(alloc: Global, store: &mut S, cuts: &[S::R]) -> Result<Stri
     Ok(text)
 }
 
-// The number alone.
-fn only(x: u16) -> Span {
-    Span { low: x, high: x }
-}
-
 // The block's part with this source port or type, and this destination port or code.
 fn at(block: &Block, a: u16, b: u16) -> Block {
-    Block {
-        src: block.src,
-        dst: block.dst,
-        proto: block.proto,
-        a: only(a),
-        b: only(b),
-        est: block.est,
-    }
+    let mut part = *block;
+    part.a = Span::only(a);
+    part.b = Span::only(b);
+    part
+}
+
+// The block's part with these code points.
+fn marked(block: &Block, low: u16, high: u16) -> Block
+    requires ordered { low ≤ high }
+    requires width { high ≤ 63 }
+{
+    let mut part = *block;
+    part.dscp = Span { low, high };
+    part
 }
 
 // The atoms of the valid headers in two blocks.
@@ -104,18 +113,22 @@ fn atoms_of_cuts(rt: HostRuntime) -> Result<(), Fail> {
     let [_, icmp, _, tcp, _, _, _] = valid_blocks();
     let alloc = rt.alloc();
     let mut store = BlockLists::new(alloc);
-    assert_eq!(rt; table(alloc, &mut store, &[])?.as_str(), "0 0 0 0 0 0 \n");
+    assert_eq!(rt; table(alloc, &mut store, &[])?.as_str(), "0 0 0 0 0 0 0 \n");
     assert_eq!(rt;
         of_rest_and_block(alloc, &mut store, &tcp)?.as_str(),
-        "0 0 0 0 0 0 10\n0 0 6 0 0 0 01\n"
+        "0 0 0 0 0 0 0 10\n0 0 6 0 0 0 0 01\n"
     );
     assert_eq!(rt;
         of_blocks(alloc, &mut store, &at(&icmp, 3, 4), &icmp)?.as_str(),
-        "0 0 0 0 0 0 00\n0 0 1 0 0 0 01\n0 0 1 3 4 0 11\n"
+        "0 0 0 0 0 0 0 00\n0 0 1 0 0 0 0 01\n0 0 1 3 4 0 0 11\n"
     );
     assert_eq!(rt;
         of_none_and_whole(alloc, &mut store)?.as_str(),
-        "0 0 0 0 0 0 01\n"
+        "0 0 0 0 0 0 0 01\n"
+    );
+    assert_eq!(rt;
+        of_blocks(alloc, &mut store, &marked(&tcp, 40, 47), &marked(&tcp, 46, 46))?.as_str(),
+        "0 0 0 0 0 0 0 00\n0 0 6 0 0 0 40 10\n0 0 6 0 0 0 46 11\n"
     );
     Ok(())
 }

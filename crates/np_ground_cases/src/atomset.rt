@@ -1,7 +1,9 @@
-use super::*;
+//! Sets of atoms.
+
+use np_atomset::AtomSet;
 use std::test::Fail;
 
-/// The words of a full set of each length, as a reader of bits would write them.
+// The words of a full set of each length, as a reader of bits would write them.
 #[test]
 fn fills_words_up_to_the_length(rt: HostRuntime) -> Result<(), Fail> {
     let table: [(usize, &[u64]); 5] = [

@@ -1,4 +1,6 @@
-use super::*;
+//! Stacks of security associations.
+
+use np_stack::{Full, HeaderStack};
 
 #[test]
 fn keeps_its_list_at_the_limit(rt: HostRuntime) {

@@ -1,2 +1,7 @@
 //! Tests of the ground layer: texts, lines, headers, regions and atoms.
 #![tactic(auto)]
+
+#[cfg(test)]
+mod lines;
+#[cfg(test)]
+mod text;

@@ -11,7 +11,7 @@ use Rattle.np_top.specs.Tokens.{protocols_have}
 
 -- a packet of a protocol that has no addresses, no ports and no flag
 abbrev pub plain_packet : ℕ → Header
-plain_packet p = record { src = 0; dst = 0; proto = p; a = 0; b = 0; est = false }
+plain_packet p = record { src = 0; dst = 0; proto = p; a = 0; b = 0; est = false; dscp = 0 }
 
 -- some path lets packets of this protocol cross, which the goal forbids
 pub record IsBrokenBy (net : Network) (lets : ℕ → Bool) (goal : Goal) (protocol : ℕ) : Type 0 where

@@ -89,6 +89,7 @@ fn judge_protocol(
         a: 0,
         b: 0,
         est: false,
+        dscp: 0,
     };
     let lets = slots(alloc, net, configs, &header)?;
     let goals = net.goals.as_slice();

@@ -6,13 +6,14 @@ use Rattle.np_space.specs.Span.{span_from, span_has}
 use Rattle.np_space.specs.declared.headers.Header.{Header}
 use Rattle.np_space.specs.declared.spans.Span.{Span}
 use Rattle.np_acl.specs.Entries.{any_entry, entry_matches}
+use Rattle.np_acl.specs.Spans.{any_protocol}
 use Rattle.np_acl.specs.declared.entries.Entry.{Entry}
 use Rattle.np_top.specs.declared.network.Protocols.{Protocols}
 use Rattle.np_top.specs.declared.network.Protocols.TheVariants.{Any, One}
 
--- the protocols, each by its number
-abbrev pub protocol_span : Protocols → Span
-protocol_span Any = span_from 0 255
+-- the protocols, of which there are 256
+unfoldable pub protocol_span : Protocols → Span
+protocol_span Any = any_protocol
 protocol_span (One p) = span_from p p
 
 -- an entry for these protocols, whatever the other fields are

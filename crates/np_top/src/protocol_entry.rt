@@ -9,12 +9,13 @@ use np_space::Span;
 use std::alloc::{AllocError, Global};
 
 /// The protocols, each by its number.
+#[tactic(auto, unfolding(crate::specs::ProtocolEntry::protocol_span))]
 fn protocol_span(protocols: Protocols) -> Span
     ensures { result ≡ entries.protocol_span protocols }
 {
     match protocols {
         Protocols::Any => Span::from_to(0, 255),
-        Protocols::One(one) => Span::from_to(u16::from(one), u16::from(one)),
+        Protocols::One(one) => Span::only(u16::from(one)),
     }
 }
 

@@ -22,7 +22,10 @@ fn line<R: Drop>(
 {
     let h = atoms.least(n);
     let est = u8::from(h.est);
-    let mut text = format!(in alloc; "{} {} {} {} {} {est} {} ", h.src, h.dst, h.proto, h.a, h.b, h.dscp)?;
+    let mut text = format!(in alloc;
+        "{} {} {} {} {} {est} {} ",
+        h.src, h.dst, h.proto, h.a, h.b, h.dscp
+    )?;
     for cut in 0..cuts {
         text.push_str(if atoms.answer(n, cut) { "1" } else { "0" })?;
     }
@@ -127,7 +130,13 @@ fn atoms_of_cuts(rt: HostRuntime) -> Result<(), Fail> {
         "0 0 0 0 0 0 0 01\n"
     );
     assert_eq!(rt;
-        of_blocks(alloc, &mut store, &marked(&tcp, 40, 47), &marked(&tcp, 46, 46))?.as_str(),
+        of_blocks(
+            alloc,
+            &mut store,
+            &marked(&tcp, 40, 47),
+            &marked(&tcp, 46, 46)
+        )?
+        .as_str(),
         "0 0 0 0 0 0 0 00\n0 0 6 0 0 0 40 10\n0 0 6 0 0 0 46 11\n"
     );
     Ok(())

@@ -1,2 +1,13 @@
-//! Tests of the ground layer: texts, lines, headers, regions and atoms.
+//! Tests of the ground layer: texts, lines, headers, regions, atoms, sets of atoms and stacks.
 #![tactic(auto)]
+
+#[cfg(test)]
+mod atoms;
+#[cfg(test)]
+mod atomset;
+#[cfg(test)]
+mod region;
+#[cfg(test)]
+mod space;
+#[cfg(test)]
+mod stack;

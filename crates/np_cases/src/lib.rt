@@ -8,6 +8,8 @@ pub use given::{shelf, words};
 #[cfg(test)]
 mod check;
 #[cfg(test)]
+mod cuts;
+#[cfg(test)]
 mod runs;
 #[cfg(test)]
 mod show;

@@ -54,6 +54,29 @@ interface r e1 lan
 goal out lan only and src 10.0.0.0/8 dport 80-443
 ";
 
+/// The same with predicates on the code point: one number, one by its span, and both ends of the range.
+const CODE_POINTS: &str = "area out 0.0.0.0/0
+area lan 10.0.0.0/8
+device r
+interface r e0 out
+interface r e1 lan
+goal out lan never dscp 46
+goal out lan only or dscp 08-0015 dscp 63-63
+goal lan out never not dscp 0-63
+";
+
+/// Its canonical text.
+const CODE_POINTS_SHOWN: &str = "depth 8
+area out 0.0.0.0/0
+area lan 10.0.0.0/8
+device r
+interface r e0 out
+interface r e1 lan
+goal out lan never dscp 46
+goal out lan only or dscp 8-15 dscp 63
+goal lan out never not dscp 0-63
+";
+
 /// Each form of statement, in another order than the canonical one.
 const MIXED: &str = "# a comment
 device b config b.cfg trusted
@@ -113,6 +136,7 @@ fn canonical_texts(rt: HostRuntime) -> Result<(), Fail> {
         ("a canonical text", OPEN_SHOWN, OPEN_SHOWN),
         ("line ends of two bytes", RETURNS, OPEN_SHOWN),
         ("a predicate with an area", ONLY, ONLY_SHOWN),
+        ("predicates on the code point", CODE_POINTS, CODE_POINTS_SHOWN),
         ("each form of statement", MIXED, MIXED_SHOWN),
         ("an area alone", "area z none", "depth 8\narea z none\n"),
         ("an empty file", "", "depth 8\n"),
@@ -145,6 +169,10 @@ fn refused_lines(rt: HostRuntime) -> Result<(), Fail> {
         (b"device r", "Duplicate"),
         (b"interface r e2 nowhere", "UnknownName"),
         (b"goal out lan never and tcp", "BadPred"),
+        (b"goal out lan never dscp 64", "BadPred"),
+        (b"goal out lan never dscp 9-8", "BadPred"),
+        (b"goal out lan never dscp ef", "BadPred"),
+        (b"goal out lan never dscp", "BadPred"),
         (deep.as_bytes(), "TooDeep"),
         (b"goal lan lan never any", "SameArea"),
     ] {

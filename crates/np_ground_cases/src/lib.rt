@@ -1,4 +1,5 @@
-//! Tests of the ground layer: texts, lines, headers, regions, atoms, sets of atoms and stacks.
+//! Tests of the ground layer: files and output, texts, lines, headers, regions, atoms, sets of atoms
+//! and stacks.
 #![tactic(auto)]
 
 #[cfg(test)]
@@ -6,8 +7,14 @@ mod atoms;
 #[cfg(test)]
 mod atomset;
 #[cfg(test)]
+mod lines;
+#[cfg(test)]
+mod outside;
+#[cfg(test)]
 mod region;
 #[cfg(test)]
 mod space;
 #[cfg(test)]
 mod stack;
+#[cfg(test)]
+mod text;

@@ -4,4 +4,3 @@ pub mod Files
 pub mod MemFiles
 pub mod MemShelf
 pub mod MemSink
-pub mod Texts

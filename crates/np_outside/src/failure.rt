@@ -1,23 +1,13 @@
-ghost use Rattle.std.specs.Prelude.{◌≡◌, Some, ◌≤◌, is_err, if◌then◌else◌, codes};
+ghost use Rattle.std.specs.Prelude.{◌≡◌, ◌≤◌, is_err, if◌then◌else◌};
 ghost use Rattle.std.specs.Result.{result_ok};
 ghost use Rattle.np_outside.specs.Calls.{raised};
 
-use std::error::Error;
-use std::fmt;
+use thiserror::Error;
 
 /// A device failed to do what it was asked.
-#[derive(Clone, Copy, Debug, PartialEq, Eq)]
+#[derive(Clone, Copy, Debug, PartialEq, Eq, Error)]
+#[error("the device failed")]
 pub struct Failed;
-
-impl fmt::Display for Failed {
-    ghost output = { λ _. Some (codes "the device failed") };
-
-    fn fmt<W: fmt::Write>(&self, f: &mut fmt::Formatter<W>) -> fmt::Result {
-        write!(f, "the device failed")
-    }
-}
-
-impl Error for Failed {}
 
 /// What the system gave, or a failure, which is counted.
 pub(crate) fn counted<T>(faults: &mut u64, given: Option<T>) -> Result<T, Failed>

@@ -1,4 +1,4 @@
-ghost use Rattle.std.specs.Prelude.{◌≡◌, None, is_some};
+ghost use Rattle.std.specs.Prelude.{◌≡◌, None, true, false, is_some};
 
 use crate::failure::{Failed, counted};
 use crate::shelf::Shelf;
@@ -24,7 +24,8 @@ fn open<R: FileSystem>(rt: &R, path: &[u8]) -> Option<R::File> {
 impl<'a, R: FileSystem> FileShelf<'a, R> {
     /// No file is begun, and no call has failed.
     pub fn new(rt: &'a R) -> FileShelf<'a, R>
-        ensures { ⟦<FileShelf<'a, R> as Shelf>⟧.faults result ≡ 0 }
+        ensures unbegun { ⟦<FileShelf<'a, R> as Shelf>⟧.is_begun result ≡ false }
+        ensures faultless { ⟦<FileShelf<'a, R> as Shelf>⟧.faults result ≡ 0 }
     {
         FileShelf {
             rt,
@@ -56,6 +57,8 @@ impl<R: FileSystem> Shelf for FileShelf<'_, R> {
     ghost breaks = { λ s. s.faults };
 
     ghost cap = { λ _. None };
+
+    ghost counts_failures_alone = { λ _. true };
 
     ghost told = { λ _. tt };
 

@@ -21,6 +21,3 @@ pub use mem_sink::MemSink;
 pub use shelf::{ReadError, Shelf, read_file};
 pub use sink::{Sink, write_all};
 pub use std_sink::StdSink;
-
-#[cfg(test)]
-mod tests;

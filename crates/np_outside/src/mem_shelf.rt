@@ -159,6 +159,8 @@ impl Shelf for MemShelf {
 
     ghost cap = { λ s. Some (length (state s).named) };
 
+    ghost counts_failures_alone = { λ _. true };
+
     ghost told = { λ s. refl };
 
     ghost capped = { λ s. s.within_cap };
@@ -178,6 +180,8 @@ impl Shelf for MemShelf {
         ensures cap { Some (length (state self.new).named) ≡ Some (length (state self.old).named) }
         ensures grows { (state self.old).faults ≤ (state self.new).faults }
         ensures breaks_grow { (state self.old).breaks ≤ (state self.new).breaks }
+        ensures still { OnOk result (true ≡ true →
+            ((state self.new).faults ≡ (state self.old).faults) × ((state self.new).breaks ≡ (state self.old).breaks)) }
 
         // Which begins fail, and what each leaves.
         ensures fails { is_err result ≡ begin_fails (state self.old) name.now }
@@ -223,6 +227,8 @@ impl Shelf for MemShelf {
         ensures cap { Some (length (state self.new).named) ≡ Some (length (state self.old).named) }
         ensures grows { (state self.old).faults ≤ (state self.new).faults }
         ensures breaks_grow { (state self.old).breaks ≤ (state self.new).breaks }
+        ensures still { OnOk result (true ≡ true →
+            ((state self.new).faults ≡ (state self.old).faults) × ((state self.new).breaks ≡ (state self.old).breaks)) }
 
         // Which reads fail, how many bytes the others give, and what each leaves.
         ensures fails { is_err result ≡ read_fails (state self.old) }

@@ -1,4 +1,4 @@
-ghost use Rattle.std.specs.Prelude.{◌≡◌, ◌≤◌, ◌<◌, Some, None, length};
+ghost use Rattle.std.specs.Prelude.{true, ◌≡◌, ◌≤◌, ◌<◌, Some, None, length};
 ghost use Rattle.std.specs.Option.{ForSome};
 ghost use Rattle.std.specs.Vec.{vec_len, vec_capacity};
 ghost use Rattle.np_outside.specs.Calls.{count_passed};
@@ -96,6 +96,8 @@ impl Sink for MemSink {
 
     ghost room = { λ s. Some (state s).room };
 
+    ghost counts_failures_alone = { λ _. true };
+
     ghost capped = { λ s. s.within_cap };
 
     /// Takes as many bytes as the least of the step, the piece's length and the room left.
@@ -108,6 +110,7 @@ impl Sink for MemSink {
         ensures grows { (state self.old).faults ≤ (state self.new).faults }
         ensures cap { Some (length (state self.new).named) ≡ Some (length (state self.old).named) }
         ensures room { Some (state self.new).room ≡ Some (state self.old).room }
+        ensures still { OnOk result (true ≡ true → (state self.new).faults ≡ (state self.old).faults) }
 
         // Which writes fail, how many bytes the others take, and what is left.
         ensures fails { is_err result ≡ write_fails (state self.old) (length buf.now) }

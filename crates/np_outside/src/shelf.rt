@@ -1,41 +1,28 @@
-ghost use Rattle.std.specs.Prelude.{◌≡◌, Some, ℕ, ◌+◌, ◌-◌, ◌^◌, ◌<◌, ◌≤◌, List, [], ◌++◌, Option, Bool, true, length, take, drop, is_some, is_ok, IfOk, OnOk, OnErr, IfSome, IsSome, IsSomeAnd, IsErr, IsErrOf, vec_len};
+ghost use Rattle.std.specs.Prelude.{◌≡◌, Some, ℕ, ◌+◌, ◌-◌, ◌^◌, ◌<◌, ◌≤◌, List, [], ◌++◌, Option, Bool, true, false, length, take, drop, is_some, is_ok, IfOk, OnOk, OnErr, IfSome, IsSome, IsSomeAnd, IsErr, IsErrOf, vec_len};
 ghost use Rattle.std.specs.FinMap.{get};
 ghost use Rattle.np_outside.specs.Counts.{Rose};
 ghost use Rattle.np_outside.specs.Files.{Files, IsLeftOf};
-ghost use Rattle.np_outside.specs.Texts.{text_of};
 ghost use Rattle.np_outside.specs.declared.shelf.ReadError.TheVariants as causes;
 
 use crate::failure::Failed;
 use std::alloc::{AllocError, Global};
-use std::error::Error;
-use std::fmt;
+use thiserror::Error;
 
 /// Why a file could not be read.
-#[derive(Clone, Copy, Debug, PartialEq, Eq)]
+#[derive(Clone, Copy, Debug, PartialEq, Eq, Error)]
 pub enum ReadError {
     /// The shelf failed.
+    #[error("the device failed")]
     Failed,
 
     /// The file has more bytes than the limit.
+    #[error("the file is too long")]
     TooLong,
 
     /// There was no memory for the bytes.
+    #[error("out of memory")]
     Memory(AllocError),
 }
-
-impl fmt::Display for ReadError {
-    ghost output = { λ e. Some (text_of e) };
-
-    fn fmt<W: fmt::Write>(&self, f: &mut fmt::Formatter<W>) -> fmt::Result {
-        match self {
-            ReadError::Failed => write!(f, "the device failed"),
-            ReadError::TooLong => write!(f, "the file is too long"),
-            ReadError::Memory(_) => write!(f, "out of memory"),
-        }
-    }
-}
-
-impl Error for ReadError {}
 
 impl From<Failed> for ReadError {
     ghost from_gives = { λ _ e. e ≡ causes.Failed };
@@ -74,6 +61,10 @@ pub trait Shelf {
     /// At most how many breaks there can be, where the shelf tells it.
     ghost cap: { Self → Option ℕ };
 
+    /// Whether the counts rise in calls that fail alone. A shelf that doesn't say so may raise them in
+    /// other calls too.
+    ghost counts_failures_alone: { Self → Bool } = { λ _. false };
+
     /// Makes the named file the current one, from its first byte. A name that is not there is a
     /// failure.
     fn begin(&mut self, name: &[u8]) -> Result<(), Failed>
@@ -88,6 +79,9 @@ pub trait Shelf {
             IsSome (get m name.now) → Rose (breaks self.old) (breaks self.new)) }
         ensures missing { (m : Files) → files self.old ≡ Some m →
             get m name.now ≡ None → breaks self.new ≡ breaks self.old }
+
+        ensures still { OnOk result (counts_failures_alone self.old ≡ true →
+            (faults self.new ≡ faults self.old) × (breaks self.new ≡ breaks self.old)) }
 
         ensures files { files self.new ≡ files self.old }
         ensures cap { cap self.new ≡ cap self.old }
@@ -113,6 +107,9 @@ pub trait Shelf {
             IsSome (rest self.old) → Rose (breaks self.old) (breaks self.new)) }
         ensures unbegun { (m : Files) → files self.old ≡ Some m →
             rest self.old ≡ None → breaks self.new ≡ breaks self.old }
+
+        ensures still { OnOk result (counts_failures_alone self.old ≡ true →
+            (faults self.new ≡ faults self.old) × (breaks self.new ≡ breaks self.old)) }
 
         ensures files { files self.new ≡ files self.old }
         ensures cap { cap self.new ≡ cap self.old }

@@ -1,4 +1,4 @@
-ghost use Rattle.std.specs.Prelude.{◌≡◌, ℕ, ◌+◌, ◌<◌, ◌≤◌, List, ◌++◌, Option, length, take, IfOk, OnOk, OnErr, IfSome};
+ghost use Rattle.std.specs.Prelude.{◌≡◌, ℕ, ◌+◌, ◌<◌, ◌≤◌, Bool, true, false, List, ◌++◌, Option, length, take, IfOk, OnOk, OnErr, IfSome};
 ghost use Rattle.np_outside.specs.Counts.{Rose};
 
 use crate::failure::Failed;
@@ -17,6 +17,10 @@ pub trait Sink {
     /// How many bytes there is room for in all, where the sink tells it.
     ghost room: { Self → Option ℕ };
 
+    /// Whether the count rises in calls that fail alone. A sink that doesn't say so may raise it in other
+    /// calls too.
+    ghost counts_failures_alone: { Self → Bool } = { λ _. false };
+
     /// Takes bytes from the front of `buf`, and answers how many. To take none of some is a failure.
     fn write(&mut self, buf: &[u8]) -> Result<usize, Failed>
         ensures count { IfOk result (λ n. (n ≤ length buf.now) × (0 < length buf.now → 0 < n)) }
@@ -24,6 +28,8 @@ pub trait Sink {
             taken self.new ≡ Some (b ++ take n buf.now)) }
         ensures err { OnErr result (taken self.new ≡ taken self.old) }
         ensures failed { OnErr result (Rose (faults self.old) (faults self.new)) }
+        ensures still { OnOk result (counts_failures_alone self.old ≡ true →
+            faults self.new ≡ faults self.old) }
         ensures grows { faults self.old ≤ faults self.new }
         ensures cap { cap self.new ≡ cap self.old }
         ensures room { room self.new ≡ room self.old };

@@ -1,4 +1,4 @@
-ghost use Rattle.std.specs.Prelude.{◌≡◌, None};
+ghost use Rattle.std.specs.Prelude.{◌≡◌, None, true};
 
 use crate::failure::{Failed, counted};
 use crate::sink::Sink;
@@ -33,6 +33,8 @@ impl<R: Print> Sink for StdSink<'_, R> {
     ghost cap = { λ _. None };
 
     ghost room = { λ _. None };
+
+    ghost counts_failures_alone = { λ _. true };
 
     ghost capped = { λ _. tt };
 

@@ -1,6 +1,7 @@
 -- Laws of numbers in decimal.
 use Rattle.std.proofs.Common.{◌≡◌, ℕ, ◌+◌, ◌-◌, ◌*◌, ◌^◌, ◌<◌, ◌≤◌, true, cond, ◌&&◌, leb, List, [], ◌∷◌, length, Option, Some, None, inl, inr, sym, refl, ap, ◌∙◌, arith}
 use Rattle.std.specs.Char.{is_ascii_digit, digit_value}
+use Rattle.std.specs.List.{list_all}
 use Rattle.std.specs.Option.{option_and_then}
 use Rattle.std.specs.Str.{all_ascii_digits}
 use Rattle.std.specs.Str.Parse.{digits_value, digits_value_after}
@@ -84,3 +85,8 @@ decimal_shortest word max value small h =
     let some = ltb-true 0 (length word) numeral.0 in
     let below = digits_value-lt 10 word (digits_by_test.to word numeral.1) in
     length-decimal-le (length word) value some (omega (arith, below, read.1)) small
+
+-- the test of digits, byte by byte
+pub all_digits : (word : List ℕ) → list_all is_ascii_digit word ≡ all_ascii_digits word
+all_digits [] = refl
+all_digits (b ∷ bs) = ap (λ t. is_ascii_digit b && t) (all_digits bs)

@@ -5,6 +5,9 @@ use Rattle.std.proofs.lemmas.Bool.{cond-true, cond_both, cases_Bool}
 use Rattle.std.proofs.lemmas.Grind.{common_steps}
 use Rattle.std.proofs.lemmas.List.Elements.{All-head, All-tail}
 use Rattle.std.proofs.lemmas.List.Sums.{prefix_len_passes, prefix_len-le-length, fails_before_first, passes_at_first}
+use Rattle.std.proofs.lemmas.Simd.{map-map}
+use Rattle.np_text.specs.Views.{word_view}
+use Rattle.np_text.specs.declared.cutting.Word.{Word}
 use Rattle.np_text.specs.Words.{is_blank, ends_word, onto_first_word, words_of, placed_words}
 
 -- blank bytes in front of a line move its words
@@ -104,3 +107,7 @@ words_of-append_word word rest some h ends =
     sym (map-placed_words 0 (word ++ rest))
     ∙ ap (map (λ w. w.1)) (placed_words-append_some 0 word rest some h ends)
     ∙ ap (λ words. word ∷ words) (map-placed_words (0 + length word) rest)
+
+-- words with their places, without these
+pub listed_words : (list : List Word) (line : List ℕ) → map word_view list ≡ placed_words 0 line → map (λ word. word.bytes.now) list ≡ words_of line
+listed_words list line all = sym (map-map (λ (word : ℕ × List ℕ). word.1) word_view list) ∙ ap (map (λ word. word.1)) all ∙ map-placed_words 0 line

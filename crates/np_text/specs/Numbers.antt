@@ -13,7 +13,7 @@ unfoldable pub number_of : List ℕ → ℕ → Option ℕ
 number_of word max =
     if is_numeral word && nat_le (digits_value 10 word) max then Some (digits_value 10 word) else None
 
--- the value with one more digit behind it, if that is a digit and the value is at most max
+-- the value followed by one more digit, if that is a digit and the value is at most max
 abbrev pub with_digit : ℕ → ℕ → ℕ → Option ℕ
 with_digit max value byte =
     if is_ascii_digit byte && nat_le (value * 10 + (byte - 48)) max then Some (value * 10 + (byte - 48)) else None

@@ -19,7 +19,7 @@ words_of (b ∷ bs) =
     else if ends_word bs then (b ∷ []) ∷ words_of bs
     else onto_first b (words_of bs)
 
--- the byte at this place goes in front of the first of the words that follow it
+-- the byte at this place goes to the beginning of the first of the words that follow it
 abbrev pub onto_first_word : ℕ → ℕ → List (ℕ × List ℕ) → List (ℕ × List ℕ)
 onto_first_word at b [] = (at, b ∷ []) ∷ []
 onto_first_word at b (word ∷ words) = (at, b ∷ word.1) ∷ words

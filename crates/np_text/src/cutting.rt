@@ -1,5 +1,6 @@
 ghost use Rattle.std.specs.Prelude.{ℕ, ◌≡◌, ◌+◌, ◌<◌, ◌≤◌, ◌^◌, ◌∷◌, ◌==◌, length, map, IfOk, IfNone, IfSome, OnSome};
 ghost use Rattle.np_text.specs.Lines.{lines_of, numbered_lines};
+ghost use Rattle.np_text.specs.Views.{word_view};
 ghost use Rattle.np_text.specs.Words.{is_blank, placed_words, words_of};
 ghost use Rattle.std.specs.List.{position_or_len, before_first, after_first, prefix_len};
 
@@ -34,7 +35,8 @@ impl<'a> Model for LineIter<'a> {
     ghost invariant = { λ it. it.number + length it.rest.now < 2 ^ 64 };
 }
 
-/// The lines of a text: what stands between its bytes 0x0A. A last piece that is empty is no line.
+/// The lines of a text: what stands between its bytes 0x0A, in order, with numbers from 1. A last
+/// piece that is empty is no line. It takes no memory.
 #[tactic(auto, using(crate::proofs::LineLaws::numbered_lines_few))]
 pub fn lines(bytes: &[u8]) -> LineIter<'_>
     ensures all { result ≡ numbered_lines bytes.now }
@@ -46,12 +48,13 @@ pub fn lines(bytes: &[u8]) -> LineIter<'_>
     }
 }
 
-/// What stands before the first `byte`, and what stands behind it. `None` where there is none.
-pub(crate) fn split_once(bytes: &[u8], byte: u8) -> Option<(&[u8], &[u8])>
+/// What stands before the first `byte`, and what stands after it. `None` where there is none.
+pub fn split_once(bytes: &[u8], byte: u8) -> Option<(&[u8], &[u8])>
     ensures none { IfNone result (position_or_len (λ b. b == byte) bytes.now ≡ length bytes.now) }
     ensures found { OnSome result (position_or_len (λ b. b == byte) bytes.now < length bytes.now) }
     ensures before { IfSome result (λ parts. parts.0.now ≡ before_first (λ b. b == byte) bytes.now) }
-    ensures behind { IfSome result (λ parts. parts.1.now ≡ after_first (λ b. b == byte) bytes.now) }
+    ensures after { IfSome result (λ parts. parts.1.now ≡ after_first (λ b. b == byte) bytes.now) }
+    ensures shorter { IfSome result (λ parts. length parts.1.now < length bytes.now) }
 {
     let at = bytes.iter().position(|b| *b == byte)?;
     Some((&bytes[..at], &bytes[at + 1..]))
@@ -118,7 +121,8 @@ impl<'a> Model for WordIter<'a> {
     ghost invariant = { λ it. it.at + length it.rest.now < 2 ^ 64 };
 }
 
-/// The words of a line: its maximal runs of bytes other than space, tab and carriage return.
+/// The words of a line: its maximal runs of bytes other than space, tab and carriage return, in
+/// order, each with the place where it begins. It takes no memory.
 #[tactic(auto, using(crate::proofs::WordLaws::placed_words_few))]
 pub fn words(line: &[u8]) -> WordIter<'_>
     ensures all { result ≡ placed_words 0 line.now }
@@ -133,7 +137,7 @@ fn is_blank(byte: u8) -> bool
     byte == b' ' || byte == b'\t' || byte == b'\r'
 }
 
-/// The place and the bytes behind the blank bytes at the front.
+/// The place and the bytes after the blank bytes at the beginning.
 fn skip_blanks(at: usize, bytes: &[u8]) -> (usize, &[u8])
     requires { at + length bytes.now < 2 ^ 64 }
     ensures words { placed_words at bytes.now ≡ placed_words result.0 result.1.now }
@@ -146,7 +150,7 @@ fn skip_blanks(at: usize, bytes: &[u8]) -> (usize, &[u8])
     }
 }
 
-/// The word at the front of these bytes, and what follows it.
+/// The word that these bytes begin with, and what follows it.
 fn split_word(bytes: &[u8]) -> (&[u8], &[u8])
     requires some { 0 < length bytes.now }
     requires word { prefix_len is_blank bytes.now ≡ 0 }
@@ -181,13 +185,15 @@ impl<'a> Iterator for WordIter<'a> {
     }
 }
 
-/// The words of a line, without their places.
-pub fn word_list(alloc: Global, line: &[u8]) -> Result<Vec<&[u8]>, AllocError>
-    ensures { IfOk result (λ list. map (λ word. word.now) list.items ≡ words_of line.now) }
+/// The words of a line, in order. An error comes only where memory runs out.
+pub fn word_list(alloc: Global, line: &[u8]) -> Result<Vec<Word<'_>>, AllocError>
+    ensures placed { IfOk result (λ list. map word_view list.items ≡ placed_words 0 line.now) }
+    ensures words { IfOk result (λ list. map (λ word. word.bytes.now) list.items ≡ words_of line.now) }
+    ensures few { IfOk result (λ list. length list.items ≤ length line.now) }
 {
     let mut list = Vec::new(alloc);
     for word in words(line) {
-        list.push(word.bytes)?;
+        list.push(word)?;
     }
     Ok(list)
 }

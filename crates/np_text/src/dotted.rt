@@ -19,7 +19,7 @@ fn octet(part: &[u8]) -> Option<u8>
     Some(value as u8)
 }
 
-/// What stands before the first dot, and what stands behind it. `None` where there is no dot.
+/// What stands before the first dot, and what stands after it. `None` where there is no dot.
 fn split_dot(word: &[u8]) -> Option<(&[u8], &[u8])>
     ensures none { IfNone result (slice_split is_dot word.now ≡ word.now ∷ []) }
     ensures parts { IfSome result (λ r. slice_split is_dot word.now ≡ r.0.now ∷ slice_split is_dot r.1.now) }
@@ -41,8 +41,9 @@ fn four_parts(word: &[u8]) -> Option<(&[u8], &[u8], &[u8], &[u8])>
     }
 }
 
-/// The address that a word writes: four parts of one to three digits, each at most 255, joined by
-/// dots. The first part is the high byte. `None` for any other word.
+/// The IPv4 address (RFC 791) that a word writes in dotted decimal: four parts of one to three
+/// digits, each at most 255, joined by dots. The first part is the high byte. `None` for any other
+/// word.
 pub fn address(word: &[u8]) -> Option<u32>
     ensures { result ≡ address_of word.now }
 {
@@ -60,24 +61,25 @@ fn front_bits(address: u32, length: u8) -> u32
     (u64::from(address) / unit * unit) as u32
 }
 
-/// The address and the length of a prefix: an address alone, with length 32, or `address/length`
-/// with a length from 0 to 32. Bits past the length are cleared. `None` for any other word.
+/// The address and the length of a prefix, as CIDR writes it (RFC 4632): an address alone, with
+/// length 32, or `address/length` with a length from 0 to 32. Bits past the length are cleared.
+/// `None` for any other word.
 pub fn prefix(word: &[u8]) -> Option<(u32, u8)>
     ensures { result ≡ prefix_of word.now }
 {
     match split_once(word, b'/') {
         None => Some((address(word)?, 32)),
-        Some((front, size)) => {
-            let whole = address(front)?;
+        Some((whole, size)) => {
+            let whole = address(whole)?;
             let length = number(size, 32)? as u8;
             Some((front_bits(whole, length), length))
         }
     }
 }
 
-/// Appends an address as four decimal numbers joined by dots, without leading zeros.
+/// Appends an IPv4 address (RFC 791) in dotted decimal, without leading zeros.
 ///
-/// Where memory runs out, a part of the text may have been appended.
+/// Where memory runs out, which alone is an error, a prefix of the text may have been appended.
 pub fn put_address(out: &mut Vec<u8>, value: u32) -> Result<(), AllocError>
     ensures ok { OnOk result (out.new.items ≡ out.old.items ++ dotted value) }
     ensures err { OnErr result (AppendsFront out.old.items out.new.items (dotted value)) }

@@ -4,7 +4,7 @@ ghost use Rattle.std.specs.Prelude.{ℕ, ◌≡◌, ◌+◌, ◌^◌, ◌<◌, �
 ghost use Rattle.std.specs.Fmt.{decimal};
 ghost use Rattle.std.specs.List.{AllByRecursion, concat, list_all, slice_range};
 ghost use Rattle.np_text.specs.Addresses.{address_of, dotted, front_bits, prefix_of};
-ghost use Rattle.np_text.specs.Joined.{is_word, joined_line, joined_text};
+ghost use Rattle.np_text.specs.Joined.{AreLinesOfWords, is_word, joined_line, joined_text};
 ghost use Rattle.np_text.specs.Lines.{ended_lines, has_end, lines_of};
 ghost use Rattle.np_text.specs.Numbers.{number_of};
 ghost use Rattle.np_text.specs.Words.{are_apart, is_blank, placed_words, words_of};
@@ -43,7 +43,7 @@ pub fn addresses_read_back()
     ensures shortest { (word : List ℕ) (address : ℕ) → address_of word ≡ Some address → length (dotted address) ≤ length word }
 {}
 
-/// An address reads back as a prefix of length 32, and with a length behind it as the prefix of that
+/// An address reads back as a prefix of length 32, and followed by a length as the prefix of that
 /// length.
 pub fn prefixes_read_back()
     ensures whole { (address : ℕ) → address < 2 ^ 32 → prefix_of (dotted address) ≡ Some (address, 32) }
@@ -57,10 +57,10 @@ pub fn written_forms_are_words()
     ensures prefixes { (address bits : ℕ) → bits ≤ 32 → is_word (dotted address ++ 47 ∷ decimal bits) ≡ true }
 {}
 
-/// Lines of words, the words of each joined by one space, with or without a space in front of
+/// Lines of words, the words of each joined by one space, with or without a space before
 /// them, and each line ended by a line feed, read back as these lines and words.
 pub fn joined_words_read_back()
-    ensures lines { (lines : List (Bool × List (List ℕ))) → AllByRecursion (λ line. AllByRecursion (λ word. is_word word ≡ true) line.1) lines → lines_of (joined_text lines) ≡ map (λ line. joined_line line.0 line.1) lines }
-    ensures count { (lines : List (Bool × List (List ℕ))) → AllByRecursion (λ line. AllByRecursion (λ word. is_word word ≡ true) line.1) lines → length (lines_of (joined_text lines)) ≡ length lines }
-    ensures words { (lines : List (Bool × List (List ℕ))) → AllByRecursion (λ line. AllByRecursion (λ word. is_word word ≡ true) line.1) lines → map words_of (lines_of (joined_text lines)) ≡ map (λ line. line.1) lines }
+    ensures lines { (lines : List (Bool × List (List ℕ))) → AreLinesOfWords lines → lines_of (joined_text lines) ≡ map (λ line. joined_line line.0 line.1) lines }
+    ensures count { (lines : List (Bool × List (List ℕ))) → AreLinesOfWords lines → length (lines_of (joined_text lines)) ≡ length lines }
+    ensures words { (lines : List (Bool × List (List ℕ))) → AreLinesOfWords lines → map words_of (lines_of (joined_text lines)) ≡ map (λ line. line.1) lines }
 {}

@@ -17,7 +17,7 @@ returns-clause-before c =
     let place = position_or_len_is (λ (b : ℕ). b == c.args.byte) c.args.bytes.now c.in_ok-at.at 0 (search rules) (search rules) (search rules) in
     ap (λ at. take at c.args.bytes.now) (sym place)
 
-pub returns-clause-behind : goal.returns-clause-behind
-returns-clause-behind c =
+pub returns-clause-after : goal.returns-clause-after
+returns-clause-after c =
     let place = position_or_len_is (λ (b : ℕ). b == c.args.byte) c.args.bytes.now c.in_ok-at.at 0 (search rules) (search rules) (search rules) in
     take_rest c.args.bytes.now _ ∙ ap (λ at. drop (at + 1) c.args.bytes.now) (sym place)

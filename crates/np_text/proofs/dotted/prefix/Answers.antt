@@ -13,11 +13,11 @@ returns-in_ok-address-in-None c =
 
 pub returns-in_err-whole-in-Some : goal.returns-in_err-whole-in-Some
 returns-in_err-whole-in-Some c =
-    rw (c.from_residual-in_err-whole-in-Some.ensures, prefix_of-front c.args.word.now _ _ c.in-Some.ensures.found c.in-Some.ensures.before c.in-Some.ensures.behind, ← c.in_err-whole-in-Some.ensures) refl
+    rw (c.from_residual-in_err-whole-in-Some.ensures, prefix_of-front c.args.word.now _ _ c.in-Some.ensures.found c.in-Some.ensures.before c.in-Some.ensures.after, ← c.in_err-whole-in-Some.ensures) refl
 
 pub returns-in_err-length-in-Some : goal.returns-in_err-length-in-Some
 returns-in_err-length-in-Some c =
-    rw (c.from_residual-in_err-length-in-Some.ensures, prefix_of-front c.args.word.now _ _ c.in-Some.ensures.found c.in-Some.ensures.before c.in-Some.ensures.behind, ← c.in_ok-whole-in-Some.ensures, ← c.in_err-length-in-Some.ensures) refl
+    rw (c.from_residual-in_err-length-in-Some.ensures, prefix_of-front c.args.word.now _ _ c.in-Some.ensures.found c.in-Some.ensures.before c.in-Some.ensures.after, ← c.in_ok-whole-in-Some.ensures, ← c.in_err-length-in-Some.ensures) refl
 
 pub overflow_cast-length : goal.overflow_cast-length
 overflow_cast-length c = let low = number_of-le _ 32 c.in_ok-length-in-Some.field-0 c.in_ok-length-in-Some.ensures in search rules
@@ -27,5 +27,5 @@ front_bits-requires c = number_of-le _ 32 c.in_ok-length-in-Some.field-0 c.in_ok
 
 pub returns-in_ok-length-in-Some : goal.returns-in_ok-length-in-Some
 returns-in_ok-length-in-Some c =
-    rw (prefix_of-front c.args.word.now _ _ c.in-Some.ensures.found c.in-Some.ensures.before c.in-Some.ensures.behind, ← c.in_ok-whole-in-Some.ensures, ← c.in_ok-length-in-Some.ensures)
+    rw (prefix_of-front c.args.word.now _ _ c.in-Some.ensures.found c.in-Some.ensures.before c.in-Some.ensures.after, ← c.in_ok-whole-in-Some.ensures, ← c.in_ok-length-in-Some.ensures)
     (ap (λ address. Some (address, c.in_ok-length-in-Some.field-0)) c.front_bits.ensures)

@@ -1,0 +1,109 @@
+#!/usr/bin/env python3
+"""Runs the built program, and says which of its runs aren't as they have to be.
+
+Usage: checks/program.py PROGRAM
+
+Every expected text stands here or beside an example; none comes from the program. Each run has a folder of its own.
+The last line says how many runs passed and how many failed.
+"""
+
+import os
+import subprocess
+import sys
+import tempfile
+
+TOP = os.path.join(os.path.dirname(os.path.abspath(__file__)), '..')
+
+# Two areas and a device without filters.
+OPEN = 'area out 0.0.0.0/0\narea lan 10.0.0.0/8\ndevice r\ninterface r e0 out\ninterface r e1 lan\ngoal out lan never tcp\n'
+
+# The same with a configuration that denies TCP.
+SHUT = OPEN.replace('device r\n', 'device r config r.cfg\n')
+DENY = 'interface e0\n ip access-group 100 in\naccess-list 100 deny tcp any any\naccess-list 100 permit ip any any\n'
+
+# As many areas as there may be: more than two pieces of 4,096 bytes.
+AREAS = ''.join(f'area a{k} 10.{k}.0.0/16\n' for k in range(256))
+
+# The same at the end of a text of 1 MiB.
+LONG = '# ' + 'x' * 61 + '\n'
+LONG = LONG * ((1048576 - len(AREAS)) // len(LONG))
+LONG += '#' * (1048576 - len(AREAS) - len(LONG) - 1) + '\n' + AREAS
+
+# Files, words, the status, and the text that is written.
+RUNS = [
+    ('all goals hold', {'net': SHUT, 'r.cfg': DENY}, ['check', 'net'], 0, 'goal 1 holds\nholds\n'),
+    ('a goal is violated', {'net': OPEN}, ['check', 'net'], 1, 'goal 1 violated\nfails\n'),
+    ('no words', {}, [], 2, 'usage\n'),
+    ('a word too many', {'net': OPEN}, ['show', 'net', 'net'], 2, 'usage\n'),
+    ('a command that there is none of', {'net': OPEN}, ['--help'], 2, 'usage\n'),
+    ('a refused line of a network', {'net': OPEN + 'color red\n'}, ['show', 'net'], 3, 'refused net line 7 UnknownStatement\n'),
+    ('a refused line of a configuration', {'net': SHUT, 'r.cfg': DENY + 'hostname r\n'}, ['check', 'net'], 3,
+     'refused r.cfg line 5 NotBuilt\n'),
+    ('a file of 16 MiB and a byte', {'net': '#' * 16777217}, ['show', 'net'], 3, 'refused net too-long\n'),
+    ('a file that is not there', {}, ['check', 'net'], 4, ''),
+    ('a configuration that is not there', {'net': SHUT}, ['check', 'net'], 4, ''),
+    ('a folder', {}, ['show', '.'], 4, ''),
+    ('a name with a blank', {'my net': AREAS}, ['show', 'my net'], 0, 'depth 8\n' + AREAS),
+    ('a name with blanks at its ends', {' net ': AREAS}, ['show', ' net '], 0, 'depth 8\n' + AREAS),
+    ('a name without the blanks of the file\'s', {'net': AREAS}, ['show', ' net '], 4, ''),
+    ('a file of more than 4,096 bytes', {'net': AREAS}, ['show', 'net'], 0, 'depth 8\n' + AREAS),
+    ('a file of 1 MiB', {'net': LONG}, ['show', 'net'], 0, 'depth 8\n' + AREAS),
+]
+
+
+def run(program, files, words, **streams):
+    """The status of a run in a folder with these files, and what it wrote."""
+    with tempfile.TemporaryDirectory() as folder:
+        for name, text in files.items():
+            with open(os.path.join(folder, name), 'w') as out:
+                out.write(text)
+        done = subprocess.run([program, *words], cwd=folder, stdin=subprocess.DEVNULL, timeout=60,
+                              **(streams or {'stdout': subprocess.PIPE}))
+        return done.returncode, done.stdout
+
+
+def table(program):
+    """The runs of the table."""
+    for case, files, words, status, text in RUNS:
+        yield case, run(program, files, words) == (status, text.encode())
+
+
+def strange_streams(program):
+    """Runs whose words aren't text, and whose output can't be written."""
+    files = {'net': OPEN}
+    yield 'a word that is not UTF-8', run(program, files, ['show', b'\xff']) == (7, b'')
+    with open('/dev/full', 'wb') as full:
+        yield 'output to a full device', run(program, files, ['show', 'net'], stdout=full)[0] == 5
+        yield 'usage to a full device', run(program, files, [], stdout=full)[0] == 5
+    closed = subprocess.run(['/bin/sh', '-c', '"$0" >&-', program], stdin=subprocess.DEVNULL, timeout=60)
+    yield 'output that is closed', closed.returncode == 5
+
+
+def example(program):
+    """The example of the README, whose text and output stand in the README as they stand in its folder."""
+    folder = os.path.join(TOP, 'examples', 'three-areas')
+    with open(os.path.join(folder, 'expected')) as file:
+        expected = file.read()
+    done = subprocess.run([program, 'check', 'net'], cwd=folder, capture_output=True, timeout=60)
+    yield 'the example', (done.returncode, done.stdout) == (1, expected.encode())
+    with open(os.path.join(TOP, 'README.md')) as file:
+        shown = ''.join('    ' + line + '\n' for line in expected.splitlines())
+        yield 'the example\'s output in the README', shown in file.read()
+
+
+def main():
+    program = os.path.abspath(sys.argv[1])
+    passed = failed = 0
+    for runs in (table, strange_streams, example):
+        for case, good in runs(program):
+            if good:
+                passed += 1
+            else:
+                failed += 1
+                print(f'failed: {case}', flush=True)
+    print(f'program: {passed} passed, {failed} failed')
+    return 1 if failed else 0
+
+
+if __name__ == '__main__':
+    sys.exit(main())

@@ -26,11 +26,11 @@ use Rattle.np_acl_read.specs.Groups.{no_groups, with_group}
 -- ---- one more item
 
 -- items that give nothing leave what the others give
-none_more : {X Y : Type 0} (h : X → Option Y) (xs : List X) (x : X) → h x ≡ None → filter_map h (xs ++ x ∷ []) ≡ filter_map h xs
+pub none_more : {X Y : Type 0} (h : X → Option Y) (xs : List X) (x : X) → h x ≡ None → filter_map h (xs ++ x ∷ []) ≡ filter_map h xs
 none_more h [] x none = rw none refl
 none_more h (y ∷ xs) x none = rw (none_more h xs x none) refl
 
-one_more : {X Y : Type 0} (h : X → Option Y) (xs : List X) (x : X) (y : Y) → h x ≡ Some y → filter_map h (xs ++ x ∷ []) ≡ filter_map h xs ++ y ∷ []
+pub one_more : {X Y : Type 0} (h : X → Option Y) (xs : List X) (x : X) (y : Y) → h x ≡ Some y → filter_map h (xs ++ x ∷ []) ≡ filter_map h xs ++ y ∷ []
 one_more h xs x y one = filter_map-append h xs (x ∷ []) ∙ rw one refl
 
 fold_more : {A B : Type 0} (f : B → A → B) (b : B) (xs : List A) (x : A) → fold f b (xs ++ x ∷ []) ≡ f (fold f b xs) x
@@ -110,7 +110,7 @@ no_entries_in name (statement.SectionEntry entry ∷ statements) away =
 no_entries_in name (statement.Group interface way list ∷ statements) away = no_entries_in name statements away
 no_entries_in name (statement.Other ∷ statements) away = no_entries_in name statements away
 
-no_entries : (name : List ℕ) (statements : List Statement) → list_any (bytes_eq name) (names_of statements) ≡ false → entries_of statements name ≡ []
+pub no_entries : (name : List ℕ) (statements : List Statement) → list_any (bytes_eq name) (names_of statements) ≡ false → entries_of statements name ≡ []
 no_entries name statements away =
     ap (λ entries. in_order entries) (no_entries_in name statements (sym (any_names_after name [] (filter_map list_in statements)) ∙ away))
 
@@ -136,7 +136,7 @@ made_with_list f names one none = by (list_any (bytes_eq one) names) refl where
   by false away = rw (names_kept f names, away, listed_more f names one, none away) refl
 
 -- the entries that are found at a name
-found_at : (f : List ℕ → List (ℕ × Entry)) (names : List (List ℕ)) (one : List ℕ) → (list_any (bytes_eq one) names ≡ false → f one ≡ []) → entries_named (listed f names) one ≡ f one
+pub found_at : (f : List ℕ → List (ℕ × Entry)) (names : List (List ℕ)) (one : List ℕ) → (list_any (bytes_eq one) names ≡ false → f one ≡ []) → entries_named (listed f names) one ≡ f one
 found_at f [] one none = sym (none refl)
 found_at f (name ∷ names) one none = by (bytes_eq one name) refl (found_at f names one) none where
   by : (b : Bool) → bytes_eq one name ≡ b → ((list_any (bytes_eq one) names ≡ false → f one ≡ []) → entries_named (listed f names) one ≡ f one) → ((b || list_any (bytes_eq one) names) ≡ false → f one ≡ []) → entries_named (listed f (name ∷ names)) one ≡ f one

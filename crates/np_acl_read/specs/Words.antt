@@ -21,6 +21,10 @@ action_of word =
     if bytes_eq word (codes "permit") then Some true else
     (if bytes_eq word (codes "deny") then Some false else None)
 
+-- the word of an entry that permits, or of one that denies
+abbrev pub action_word : Bool → List ℕ
+action_word permit = if permit then codes "permit" else codes "deny"
+
 -- a number between two others, both of them meant
 abbrev pub is_between : ℕ → ℕ → ℕ → Bool
 is_between low high n = nat_le low n && nat_le n high

@@ -16,9 +16,9 @@ use Rattle.np_acl_read.specs.declared.config.Config.{Config}
 use Rattle.np_net.specs.declared.filtering.Interface.{Interface}
 use Rattle.np_net.specs.Plan.{Plan}
 use Rattle.np_cut.specs.declared.device_lists.DeviceLists.{DeviceLists}
-use Rattle.np_cut.specs.Applying.{config_at, key_list, list_with_entries, names_of_keys, place_in, posture_of, slot_config, slot_interface, slot_key, slot_keys, slot_lets, slot_name, group_entries}
-use Rattle.np_cut.specs.DeviceLists.{device_at, device_lists, key_of_slot, list_of_key, named_key, posture_with}
-use Rattle.np_cut.specs.Posture.{Posture, IsPosture, posture_lets}
+use Rattle.np_cut.specs.Applying.{config_at, key_list, list_with_entries, names_of_keys, place_in, applied_of, slot_config, slot_interface, slot_key, slot_keys, slot_lets, slot_name, group_entries}
+use Rattle.np_cut.specs.DeviceLists.{device_at, device_lists, key_of_slot, list_of_key, named_key, applied_with}
+use Rattle.np_cut.specs.AppliedLists.{AppliedLists, IsApplied, applied_lets}
 use Rattle.np_cut.proofs.GroupLaws.{first_counts}
 use Rattle.np_cut.proofs.KeyLaws.{StandsAt, key_stands, place_within}
 
@@ -39,22 +39,22 @@ key_same net configs slot =
 list_same : (configs : List Config) (key : ℕ × List ℕ) → list_of_key (map device_lists configs) key ≡ key_list configs key
 list_same configs key = ap (λ (d : DeviceLists). unwrap_or (lookup (bytes_eq key.1) d.lists) []) (device_is configs key.0)
 
-abbrev made : (ℕ × List ℕ → List Entry) → List (Option (ℕ × List ℕ)) → Posture
+abbrev made : (ℕ × List ℕ → List Entry) → List (Option (ℕ × List ℕ)) → AppliedLists
 made list keys = record { lists = map list (names_of_keys keys); names = names_of_keys keys; at = map (place_in (names_of_keys keys)) keys }
 
 -- what is made of the maps is what the configurations apply
-pub posture_made : (net : Plan) (configs : List Config) (interfaces : List Interface) (devices before : List DeviceLists) (keys : List (Option (ℕ × List ℕ))) (slots : ℕ) →
+pub applied_made : (net : Plan) (configs : List Config) (interfaces : List Interface) (devices before : List DeviceLists) (keys : List (Option (ℕ × List ℕ))) (slots : ℕ) →
     interfaces ≡ net.interfaces → slots ≡ 2 * length net.interfaces → devices ≡ map device_lists configs → before ≡ map device_lists configs → keys ≡ map (key_of_slot interfaces before) (range_with_len 0 slots) →
-    posture_with devices keys ≡ posture_of net configs
-posture_made net configs interfaces devices before keys slots ei es ed eb ek =
+    applied_with devices keys ≡ applied_of net configs
+applied_made net configs interfaces devices before keys slots ei es ed eb ek =
     (λ i. made (list_of_key (ed i)) (ek i))
     ∙ (λ i. made (list_of_key (map device_lists configs)) (map (key_of_slot (ei i) (eb i)) (range_with_len 0 (es i))))
     ∙ (λ i. made (λ key. list_same configs key i) (map (λ slot. key_same net configs slot i) (range_with_len 0 (2 * length net.interfaces))))
 
--- ---- the posture
+-- ---- the lists and where they are applied
 
-pub is_posture : (lists : List (List Entry)) (names set : List (ℕ × List ℕ)) (keys : List (Option (ℕ × List ℕ))) (at : List (Option ℕ)) → length lists ≡ length set → at ≡ map (place_in set) keys → IsPosture record { lists = lists; names = names; at = at }
-is_posture lists names set keys at el ea = record { places = λ slot. subst (λ (o : Option ℕ). IfSome o (λ place. place < length lists)) (sym (read slot)) (subst (λ (n : ℕ). IfSome (place_in set (get_or keys slot None)) (λ place. place < n)) (sym el) (place_within set (get_or keys slot None))) }
+pub is_applied : (lists : List (List Entry)) (names set : List (ℕ × List ℕ)) (keys : List (Option (ℕ × List ℕ))) (at : List (Option ℕ)) → length lists ≡ length set → names ≡ set → at ≡ map (place_in set) keys → IsApplied record { lists = lists; names = names; at = at }
+is_applied lists names set keys at el en ea = record { named = ap length en ∙ sym el; places = λ slot. subst (λ (o : Option ℕ). IfSome o (λ place. place < length lists)) (sym (read slot)) (subst (λ (n : ℕ). IfSome (place_in set (get_or keys slot None)) (λ place. place < n)) (sym el) (place_within set (get_or keys slot None))) }
   where
     read : (slot : ℕ) → get_or at slot None ≡ place_in set (get_or keys slot None)
     read slot = ap (λ l. get_or l slot None) ea ∙ get_or-map-default (place_in set) keys slot None
@@ -69,9 +69,9 @@ permitted_at configs names k place list h s e =
     ap (λ o. option_map_or (λ n. list_permits (get_or (map (key_list configs) names) n []) h) o true) s.is
     ∙ ap (λ l. list_permits l h) (get_or-map (key_list configs) names place (0, []) [] s.within ∙ ap (key_list configs) (s.key (0, [])) ∙ e)
 
--- what the posture lets cross a slot is what the configurations do
-pub posture_is : (net : Plan) (configs : List Config) (slot : ℕ) → slot < 2 * length net.interfaces → (h : Header) → posture_lets (posture_of net configs) slot h ≡ slot_lets net configs slot h
-posture_is net configs slot within h =
+-- what the lists let cross a slot is what the configurations do
+pub applied_is : (net : Plan) (configs : List Config) (slot : ℕ) → slot < 2 * length net.interfaces → (h : Header) → applied_lets (applied_of net configs) slot h ≡ slot_lets net configs slot h
+applied_is net configs slot within h =
     ap (λ o. option_map_or permits o true) (get_or-map-default (place_in names) keys slot None ∙ ap (place_in names) read)
     ∙ by_name (slot_name net configs slot) read
   where
@@ -104,6 +104,6 @@ posture_is net configs slot within h =
     by_name None r = refl
     by_name (Some name) r = by_list name (lookup (bytes_eq name) config.lists) refl r
 
-pub lets_by_result : {E : Type 0} (net : Plan) (configs : List Config) (result : Result Posture E) → IfOk result (λ p. p ≡ posture_of net configs) → IfOk result (λ p. (slot : ℕ) → slot < 2 * length net.interfaces → (h : Header) → posture_lets p slot h ≡ slot_lets net configs slot h)
-lets_by_result net configs (Ok p) e = λ slot within h. ap (λ q. posture_lets q slot h) e ∙ posture_is net configs slot within h
+pub lets_by_result : {E : Type 0} (net : Plan) (configs : List Config) (result : Result AppliedLists E) → IfOk result (λ p. p ≡ applied_of net configs) → IfOk result (λ p. (slot : ℕ) → slot < 2 * length net.interfaces → (h : Header) → applied_lets p slot h ≡ slot_lets net configs slot h)
+lets_by_result net configs (Ok p) e = λ slot within h. ap (λ q. applied_lets q slot h) e ∙ applied_is net configs slot within h
 lets_by_result net configs (Err x) e = e

@@ -16,7 +16,7 @@ use Rattle.np_net.specs.declared.filtering.Interface.{Interface}
 use Rattle.np_net.specs.Plan.{Plan}
 use Rattle.np_net.specs.Path.{interface_at}
 use Rattle.np_net.specs.Distinct.{same_place}
-use Rattle.np_cut.specs.Posture.{Posture}
+use Rattle.np_cut.specs.AppliedLists.{AppliedLists}
 
 -- ---- a configuration
 
@@ -111,8 +111,8 @@ abbrev pub applied_names : Plan → List Config → List (ℕ × List ℕ)
 applied_names net configs = names_of_keys (slot_keys net configs)
 
 -- the lists that configurations apply, and where
-abbrev pub posture_of : Plan → List Config → Posture
-posture_of net configs = record {
+abbrev pub applied_of : Plan → List Config → AppliedLists
+applied_of net configs = record {
   lists = map (key_list configs) (applied_names net configs);
   names = applied_names net configs;
   at = map (place_in (applied_names net configs)) (slot_keys net configs);

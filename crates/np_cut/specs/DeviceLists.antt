@@ -10,7 +10,7 @@ use Rattle.np_net.specs.Path.{interface_at}
 use Rattle.np_cut.specs.declared.device_lists.DeviceLists.{DeviceLists}
 use Rattle.np_cut.specs.Applying.{group_entries, list_with_entries, names_of_keys, place_in}
 use Rattle.np_cut.specs.FirstGroups.{firsts}
-use Rattle.np_cut.specs.Posture.{Posture}
+use Rattle.np_cut.specs.AppliedLists.{AppliedLists}
 
 -- a configuration with the groups that count
 abbrev pub device_lists : Config → DeviceLists
@@ -38,8 +38,8 @@ abbrev pub list_of_key : List DeviceLists → ℕ × List ℕ → List Entry
 list_of_key devices key = unwrap_or (lookup (bytes_eq key.1) (device_at devices key.0).lists) []
 
 -- what devices apply, by the keys of the slots
-abbrev pub posture_with : List DeviceLists → List (Option (ℕ × List ℕ)) → Posture
-posture_with devices keys = record {
+abbrev pub applied_with : List DeviceLists → List (Option (ℕ × List ℕ)) → AppliedLists
+applied_with devices keys = record {
   lists = map (list_of_key devices) (names_of_keys keys);
   names = names_of_keys keys;
   at = map (place_in (names_of_keys keys)) keys;

@@ -4,4 +4,4 @@ pub mod DeviceLists
 pub mod FieldTests
 pub mod FilterCuts
 pub mod FirstGroups
-pub mod Posture
+pub mod AppliedLists

@@ -3,9 +3,9 @@
 ghost use Rattle.std.specs.Prelude.{◌≡◌, ◌<◌, ◌*◌, ℕ, [], length, map, unwrap_or, IfOk};
 ghost use Rattle.std.specs.Map.{lookup};
 ghost use Rattle.std.specs.Str.{bytes_eq};
-ghost use Rattle.np_cut.specs.Applying.{place_in, posture_of, slot_lets};
-ghost use Rattle.np_cut.specs.DeviceLists.{list_of_key as the_list, posture_with};
-ghost use Rattle.np_cut.specs.Posture.{posture_lets};
+ghost use Rattle.np_cut.specs.Applying.{place_in, applied_of, slot_lets};
+ghost use Rattle.np_cut.specs.DeviceLists.{list_of_key as the_list, applied_with};
+ghost use Rattle.np_cut.specs.AppliedLists.{applied_lets};
 ghost use Rattle.np_space.specs.declared.headers.Header.{Header};
 
 use crate::applied::Applied;
@@ -89,7 +89,7 @@ fn applied_by_keys(
     devices: &[DeviceLists],
     keys: &[Option<(DevId, Name)>],
 ) -> Result<Applied, AllocError>
-    ensures { IfOk result (λ applied. applied ≡ posture_with devices.now keys.now) }
+    ensures { IfOk result (λ applied. applied ≡ applied_with devices.now keys.now) }
 {
     let set = set_of_keys(alloc, keys)?;
     let lists = lists_of_keys(alloc, devices, set.as_slice())?;
@@ -102,8 +102,8 @@ fn applied_by_keys(
 /// in the order of the devices. Fails only for want of memory. Time and memory are linear in the
 /// configurations and the slots.
 pub fn apply(alloc: Global, net: &Network, configs: Vec<Config>) -> Result<Applied, AllocError>
-    ensures made { IfOk result (λ applied. applied ≡ posture_of net.now configs.items) }
-    ensures posture { IfOk result (λ applied. (slot : ℕ) → slot < 2 * length net.now.interfaces → (h : Header) → posture_lets applied slot h ≡ slot_lets net.now configs.items slot h) }
+    ensures made { IfOk result (λ applied. applied ≡ applied_of net.now configs.items) }
+    ensures lets { IfOk result (λ applied. (slot : ℕ) → slot < 2 * length net.now.interfaces → (h : Header) → applied_lets applied slot h ≡ slot_lets net.now configs.items slot h) }
 {
     let devices = lists_of_devices(alloc, configs)?;
     let keys = keys_of_slots(

@@ -1,13 +1,15 @@
 //! The entries of access lists.
 
-ghost use Rattle.std.specs.Prelude.{◌≡◌};
+ghost use Rattle.std.specs.Prelude.{◌≡◌, IfOk};
 
 use crate::ports::Ports;
 use np_space::{Header, Span, Ternary};
+use std::alloc::{AllocError, Global};
 
 /// An entry: which headers it matches, and whether it permits them. A header matches if each field
-/// has its value. Without words on ports, types or codes an entry has the one span from 0 to 65535
-/// there.
+/// has a value that the entry names (Cisco IOS Security Command Reference, `access-list (IP
+/// extended)` and `permit (IP)`). `Entry::any` tests nothing: an entry without words on a field has
+/// in it what `any` has.
 #[derive(Drop)]
 pub struct Entry {
     /// Whether the headers that match are permitted.
@@ -18,16 +20,55 @@ pub struct Entry {
     pub src: Ternary,
     /// The destination addresses.
     pub dst: Ternary,
-    /// The source ports, or the ICMP types.
+    /// The source ports, or the ICMP types: from 0 to 65535 where none are named.
     pub a: Ports,
-    /// The destination ports, or the ICMP codes.
+    /// The destination ports, or the ICMP codes: from 0 to 65535 where none are named.
     pub b: Ports,
-    /// Whether a connection is established: 0 for no and 1 for yes.
+    /// Whether a connection is established, as ACK or RST say: 0 for no and 1 for yes, and so from 0
+    /// to 1 without `established`.
     pub est: Span,
+    /// The code points of differentiated services (RFC 2474): from 0 to 63 where none is named.
+    pub dscp: Span,
 }
 
 impl Entry {
-    ghost use Rattle.np_acl.specs.Entries.{entry_matches};
+    ghost use Rattle.np_acl.specs.Entries.{any_entry, entry_matches};
+
+    /// The entry that tests nothing: it names every value of each field's width.
+    pub fn any(alloc: Global, permit: bool) -> Result<Entry, AllocError>
+        ensures { IfOk result (λ entry. entry ≡ any_entry permit) }
+    {
+        let a = Ports::any(alloc)?;
+        let b = Ports::any(alloc)?;
+        Ok(Entry {
+            permit,
+            proto: Span::from_to(0, 255),
+            src: Ternary::any(),
+            dst: Ternary::any(),
+            a,
+            b,
+            est: Span::from_to(0, 1),
+            dscp: Span::from_to(0, 63),
+        })
+    }
+
+    /// The same entry.
+    pub fn copy(&self, alloc: Global) -> Result<Entry, AllocError>
+        ensures { IfOk result (λ copy. copy ≡ self.now) }
+    {
+        let a = self.a.copy(alloc)?;
+        let b = self.b.copy(alloc)?;
+        Ok(Entry {
+            permit: self.permit,
+            proto: self.proto,
+            src: self.src,
+            dst: self.dst,
+            a,
+            b,
+            est: self.est,
+            dscp: self.dscp,
+        })
+    }
 
     /// Whether the entry matches the header.
     pub fn matches(&self, h: &Header) -> bool
@@ -39,5 +80,6 @@ impl Entry {
             && self.a.has(h.a)
             && self.b.has(h.b)
             && self.est.has(u16::from(h.est))
+            && self.dscp.has(u16::from(h.dscp))
     }
 }

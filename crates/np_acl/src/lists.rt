@@ -1,6 +1,6 @@
 //! Access lists.
 
-ghost use Rattle.std.specs.Prelude.{◌≡◌, [], ◌∷◌, ◌++◌, OnOk, OnErr};
+ghost use Rattle.std.specs.Prelude.{◌≡◌, [], ◌∷◌, ◌++◌, IfOk, OnOk, OnErr};
 ghost use Rattle.std.specs.List.{find};
 ghost use Rattle.std.specs.Option.{option_copied};
 ghost use Rattle.np_acl.specs.Entries.{entry_matches};
@@ -65,6 +65,24 @@ impl List {
         ensures { result.now ≡ self.now }
     {
         self.entries.as_slice()
+    }
+
+    /// The entries as a `Vec`, in their order.
+    pub fn into_vec(self) -> Vec<Entry>
+        ensures { result.items ≡ self }
+    {
+        self.entries
+    }
+
+    /// A list with the same entries.
+    pub fn copy(&self, alloc: Global) -> Result<List, AllocError>
+        ensures { IfOk result (λ copy. copy ≡ self.now) }
+    {
+        let mut copy = List::new(alloc);
+        for entry in self.as_slice() {
+            copy.push(entry.copy(alloc)?)?;
+        }
+        Ok(copy)
     }
 
     /// Whether the list permits the header: what the first entry that matches says, and false where

@@ -1,10 +1,11 @@
 //! The ports, types or codes of an entry.
 
-ghost use Rattle.std.specs.Prelude.{◌≡◌, [], ◌∷◌, ◌++◌, OnOk, OnErr};
+ghost use Rattle.std.specs.Prelude.{◌≡◌, [], ◌∷◌, ◌++◌, IfOk, IfErr, OnOk, OnErr};
+ghost use Rattle.np_acl.specs.Spans.{any_number};
 
 use np_space::Span;
 use smallvec::SmallVec;
-use std::alloc::{AllocError, Global};
+use std::alloc::{AllocError, AllocFailed, Global};
 use std::marker::Model;
 
 /// A span of ports, types or codes in `Ports`.
@@ -66,7 +67,23 @@ impl Ports {
         }
     }
 
-    /// Adds a span at the end.
+    /// One span.
+    pub fn of(alloc: Global, span: Span) -> Result<Ports, AllocError>
+        ensures { IfOk result (λ ports. ports ≡ span ∷ []) }
+    {
+        let mut ports = Ports::new(alloc);
+        ports.push(span)?;
+        Ok(ports)
+    }
+
+    /// The span of every number, from 0 to 65535.
+    pub fn any(alloc: Global) -> Result<Ports, AllocError>
+        ensures { IfOk result (λ ports. ports ≡ any_number ∷ []) }
+    {
+        Ports::of(alloc, Span::from_to(0, 65535))
+    }
+
+    /// Adds a span at the end. Where memory runs out, the spans stay as they were.
     pub fn push(&mut self, span: Span) -> Result<(), AllocError>
         ensures ok { OnOk result (self.new ≡ self.old ++ span ∷ []) }
         ensures err { OnErr result (self.new ≡ self.old) }
@@ -87,5 +104,32 @@ impl Ports {
         ensures { result ≡ ports_have self.now x }
     {
         self.spans.as_slice().iter().any(|part| part.span().has(x))
+    }
+
+    /// The same spans.
+    pub fn copy(&self, alloc: Global) -> Result<Ports, AllocError>
+        ensures { IfOk result (λ copy. copy ≡ self.now) }
+    {
+        let mut copy = Ports::new(alloc);
+        for part in self.as_slice() {
+            copy.push(part.span())?;
+        }
+        Ok(copy)
+    }
+
+    /// The spans as a `Vec`. More than two move there without memory being taken; where there is none
+    /// for fewer, the spans come back.
+    pub fn into_vec(self) -> Result<Vec<PortSpan>, AllocFailed<Ports>>
+        ensures ok { IfOk result (λ spans. spans.items ≡ self) }
+        ensures err { IfErr result (λ failed. failed.value ≡ self) }
+    {
+        match self.spans.into_vec() {
+            Ok(spans) => Ok(spans),
+            Err(failed) => Err(AllocFailed {
+                value: Ports {
+                    spans: failed.value,
+                },
+            }),
+        }
     }
 }

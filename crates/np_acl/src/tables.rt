@@ -3,6 +3,7 @@
 ghost use Rattle.std.specs.Prelude.{◌≡◌, map};
 ghost use Rattle.np_acl.specs.Tables as tables;
 
+use crate::kinds::PortNames;
 use np_space::Span;
 use np_text::number;
 
@@ -83,6 +84,44 @@ const ICMP: [(&[u8], (u8, Option<u8>)); 13] = [
     (b"parameter-problem", (12, None)),
 ];
 
+/// The code points of differentiated services by name: those of class selectors, assured forwarding
+/// and expedited forwarding.
+const DSCP: [(&[u8], u8); 21] = [
+    (b"default", 0),
+    (b"cs1", 8),
+    (b"af11", 10),
+    (b"af12", 12),
+    (b"af13", 14),
+    (b"cs2", 16),
+    (b"af21", 18),
+    (b"af22", 20),
+    (b"af23", 22),
+    (b"cs3", 24),
+    (b"af31", 26),
+    (b"af32", 28),
+    (b"af33", 30),
+    (b"cs4", 32),
+    (b"af41", 34),
+    (b"af42", 36),
+    (b"af43", 38),
+    (b"cs5", 40),
+    (b"ef", 46),
+    (b"cs6", 48),
+    (b"cs7", 56),
+];
+
+/// The precedences by name.
+const PRECEDENCES: [(&[u8], u8); 8] = [
+    (b"routine", 0),
+    (b"priority", 1),
+    (b"immediate", 2),
+    (b"flash", 3),
+    (b"flash-override", 4),
+    (b"critical", 5),
+    (b"internet", 6),
+    (b"network", 7),
+];
+
 /// What the table gives for the word.
 fn named<T: Copy>(mut table: &[(&[u8], T)], word: &[u8]) -> Option<T>
     ensures { result ≡ tables.named (map (λ entry. (entry.0.now, entry.1)) table.entry.now) word.now }
@@ -106,50 +145,79 @@ fn number_or_named(max: u16, table: &[(&[u8], u16)], word: &[u8]) -> Option<u16>
     }
 }
 
-/// The numbers from `low` to `high`. Where `low` is greater, `high` alone.
-pub fn span_from(low: u16, high: u16) -> Span
-    ensures { result ≡ tables.span_from low high }
+/// The same of numbers that one byte holds.
+fn octet_or_named(max: u8, table: &[(&[u8], u8)], word: &[u8]) -> Option<u8>
+    ensures { result ≡ tables.number_or_named max (map (λ entry. (entry.0.now, entry.1)) table.now) word.now }
 {
-    Span {
-        low: low.min(high),
-        high,
+    match number(word, u64::from(max)) {
+        Some(value) => Some(value as u8),
+        None => named(table, word),
     }
 }
 
 /// The protocols that a word of an access list gives: all from 0 to 255 for `ip`, and one for a
-/// number up to 255 and for a name of Cisco IOS. `None` for any other word. The protocols' numbers
-/// are IANA's.
+/// number up to 255 and for a name. `None` for any other word.
+///
+/// The protocols' numbers are IANA's, and the names those of Cisco IOS; which of them the table has
+/// is this project's choice.
 #[tactic(auto, unfolding(crate::specs::Tables::protocol_of, crate::specs::Tables::protocol_table))]
 pub fn protocol_of(word: &[u8]) -> Option<Span>
     ensures { result ≡ tables.protocol_of word.now }
 {
     if word == b"ip".as_slice() {
-        return Some(span_from(0, 255));
+        return Some(Span::from_to(0, 255));
     }
     let protocol = number_or_named(255, &PROTOCOLS, word)?;
-    Some(span_from(protocol, protocol))
+    Some(Span::only(protocol))
 }
 
-/// The port that a word of an access list gives: a number up to 65535, or a name of Cisco IOS for
-/// TCP, if `tcp` is true, or else for UDP. `None` for any other word. The ports' numbers are
-/// IANA's.
+/// The port that a word of an access list gives: a number up to 65535, or one of these names.
+/// `None` for any other word.
+///
+/// The ports' numbers are IANA's, and the names those of Cisco IOS; which of them the tables have is
+/// this project's choice.
 #[tactic(auto, unfolding(crate::specs::Tables::port_of, crate::specs::Tables::tcp_table, crate::specs::Tables::udp_table))]
-pub fn port_of(word: &[u8], tcp: bool) -> Option<u16>
-    ensures { result ≡ tables.port_of word.now tcp }
+pub fn port_of(word: &[u8], names: PortNames) -> Option<u16>
+    ensures { result ≡ tables.port_of word.now names }
 {
-    if tcp {
-        number_or_named(65535, &TCP_PORTS, word)
-    } else {
-        number_or_named(65535, &UDP_PORTS, word)
+    match names {
+        PortNames::Tcp => number_or_named(65535, &TCP_PORTS, word),
+        PortNames::Udp => number_or_named(65535, &UDP_PORTS, word),
     }
 }
 
-/// The ICMP type that a name of Cisco IOS gives in an access list, and the code where the name has
-/// one. `None` for any other word, a number among them. The types' and the codes' numbers are
-/// IANA's.
+/// The ICMP type that a name gives in an access list, and the code where the name has one. `None`
+/// for any other word, a number among them.
+///
+/// The types' and the codes' numbers are those of RFC 792 and of IANA, and the names those of Cisco
+/// IOS; which of them the table has, and which of these have a code, is this project's choice.
 #[tactic(auto, unfolding(crate::specs::Tables::icmp_of, crate::specs::Tables::icmp_table))]
 pub fn icmp_of(word: &[u8]) -> Option<(u8, Option<u8>)>
     ensures { result ≡ tables.icmp_of word.now }
 {
     named(&ICMP, word)
+}
+
+/// The code point of differentiated services (DSCP) that a word of an access list gives: a number up
+/// to 63, or a name. `None` for any other word.
+///
+/// The names are `default`, `cs1` to `cs7` (RFC 2474), `af11` to `af43` (RFC 2597) and `ef` (RFC
+/// 3246); which names the table has is this project's choice.
+#[tactic(auto, unfolding(crate::specs::Tables::dscp_of, crate::specs::Tables::dscp_table))]
+pub fn dscp_of(word: &[u8]) -> Option<u8>
+    ensures { result ≡ tables.dscp_of word.now }
+{
+    octet_or_named(63, &DSCP, word)
+}
+
+/// The precedence that a word of an access list gives: a number up to 7, or a name. `None` for any
+/// other word.
+///
+/// The precedences are those of RFC 791, section 3.1: the upper three bits of the DSCP. Their names
+/// are those of Cisco IOS; which names the table has is this project's choice.
+#[tactic(auto, unfolding(crate::specs::Tables::precedence_of, crate::specs::Tables::precedence_table))]
+pub fn precedence_of(word: &[u8]) -> Option<u8>
+    ensures { result ≡ tables.precedence_of word.now }
+{
+    octet_or_named(7, &PRECEDENCES, word)
 }

@@ -1,2 +1,5 @@
 //! Tests of the layer of access lists: entries, configurations and what is cut out of them.
 #![tactic(auto)]
+
+#[cfg(test)]
+mod acl;

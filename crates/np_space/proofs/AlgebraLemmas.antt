@@ -35,6 +35,7 @@ apart_by x y h p q px qy apart =
           absurd (true≢false (sym (λ i. px both.0 i && qy both.1 i) ∙ sym apart))
     ]
 
+-- fields with the common numbers make a block with the common headers
 pub fields_meet : (x y m : Block) → ((v : ℕ) → ternary_has m.src v ≡ (ternary_has x.src v && ternary_has y.src v)) → ((v : ℕ) → ternary_has m.dst v ≡ (ternary_has x.dst v && ternary_has y.dst v)) → ((v : ℕ) → span_has m.proto v ≡ (span_has x.proto v && span_has y.proto v)) → ((v : ℕ) → span_has m.a v ≡ (span_has x.a v && span_has y.a v)) → ((v : ℕ) → span_has m.b v ≡ (span_has x.b v && span_has y.b v)) → ((v : ℕ) → span_has m.est v ≡ (span_has x.est v && span_has y.est v)) → ((v : ℕ) → span_has m.dscp v ≡ (span_has x.dscp v && span_has y.dscp v)) → (h : Header) → block_has m h ≡ (block_has x h && block_has y h)
 unfolding block_has
 fields_meet x y m hsrc hdst hproto ha hb hest hdscp h =
@@ -50,24 +51,31 @@ pub none_exact : (x y : Block) (r : Option Block) → r ≡ None → ((h : Heade
 none_exact x y r e apart h = ap (λ o. some_has block_has o h) e ∙ sym (apart h)
 
 module _ (x y : Block) where
+  -- sources without a common address
   pub apart_src : ((v : ℕ) → false ≡ (ternary_has x.src v && ternary_has y.src v)) → (h : Header) → (block_has x h && block_has y h) ≡ false
   apart_src apart h = apart_by x y h (ternary_has x.src h.src) (ternary_has y.src h.src) (λ e. (fields_in x h e).src) (λ e. (fields_in y h e).src) (apart h.src)
 
+  -- destinations without a common address
   pub apart_dst : ((v : ℕ) → false ≡ (ternary_has x.dst v && ternary_has y.dst v)) → (h : Header) → (block_has x h && block_has y h) ≡ false
   apart_dst apart h = apart_by x y h (ternary_has x.dst h.dst) (ternary_has y.dst h.dst) (λ e. (fields_in x h e).dst) (λ e. (fields_in y h e).dst) (apart h.dst)
 
+  -- protocols without a common number
   pub apart_proto : ((v : ℕ) → false ≡ (span_has x.proto v && span_has y.proto v)) → (h : Header) → (block_has x h && block_has y h) ≡ false
   apart_proto apart h = apart_by x y h (span_has x.proto h.proto) (span_has y.proto h.proto) (λ e. (fields_in x h e).proto) (λ e. (fields_in y h e).proto) (apart h.proto)
 
+  -- spans of `a` without a common number
   pub apart_a : ((v : ℕ) → false ≡ (span_has x.a v && span_has y.a v)) → (h : Header) → (block_has x h && block_has y h) ≡ false
   apart_a apart h = apart_by x y h (span_has x.a h.a) (span_has y.a h.a) (λ e. (fields_in x h e).a) (λ e. (fields_in y h e).a) (apart h.a)
 
+  -- spans of `b` without a common number
   pub apart_b : ((v : ℕ) → false ≡ (span_has x.b v && span_has y.b v)) → (h : Header) → (block_has x h && block_has y h) ≡ false
   apart_b apart h = apart_by x y h (span_has x.b h.b) (span_has y.b h.b) (λ e. (fields_in x h e).b) (λ e. (fields_in y h e).b) (apart h.b)
 
+  -- spans of `est` without a common number
   pub apart_est : ((v : ℕ) → false ≡ (span_has x.est v && span_has y.est v)) → (h : Header) → (block_has x h && block_has y h) ≡ false
   apart_est apart h = apart_by x y h (span_has x.est (flag_number h.est)) (span_has y.est (flag_number h.est)) (λ e. (fields_in x h e).est) (λ e. (fields_in y h e).est) (apart (flag_number h.est))
 
+  -- spans of `dscp` without a common number
   pub apart_dscp : ((v : ℕ) → false ≡ (span_has x.dscp v && span_has y.dscp v)) → (h : Header) → (block_has x h && block_has y h) ≡ false
   apart_dscp apart h = apart_by x y h (span_has x.dscp h.dscp) (span_has y.dscp h.dscp) (λ e. (fields_in x h e).dscp) (λ e. (fields_in y h e).dscp) (apart h.dscp)
 
@@ -84,22 +92,27 @@ first_last : (s d p a b e c : Bool) → (s && d && p && a && b && e && c) ≡ ((
 first_last false d p a b e c = sym (and_right (d && p && a && b && e && c) false refl)
 first_last true d p a b e c = sym (and_true (d && p && a && b && e && c))
 
+-- the second
 second_last : (s d p a b e c : Bool) → (s && d && p && a && b && e && c) ≡ ((s && p && a && b && e && c) && d)
 second_last s false p a b e c = ap (λ t. t && p && a && b && e && c) (and_right s false refl) ∙ sym (and_right (s && p && a && b && e && c) false refl)
 second_last s true p a b e c = ap (λ t. t && p && a && b && e && c) (and_true s) ∙ sym (and_true (s && p && a && b && e && c))
 
+-- the third
 third_last : (s d p a b e c : Bool) → (s && d && p && a && b && e && c) ≡ ((s && d && a && b && e && c) && p)
 third_last s d false a b e c = ap (λ t. t && a && b && e && c) (and_right (s && d) false refl) ∙ sym (and_right (s && d && a && b && e && c) false refl)
 third_last s d true a b e c = ap (λ t. t && a && b && e && c) (and_true (s && d)) ∙ sym (and_true (s && d && a && b && e && c))
 
+-- the fourth
 fourth_last : (s d p a b e c : Bool) → (s && d && p && a && b && e && c) ≡ ((s && d && p && b && e && c) && a)
 fourth_last s d p false b e c = ap (λ t. t && b && e && c) (and_right (s && d && p) false refl) ∙ sym (and_right (s && d && p && b && e && c) false refl)
 fourth_last s d p true b e c = ap (λ t. t && b && e && c) (and_true (s && d && p)) ∙ sym (and_true (s && d && p && b && e && c))
 
+-- the fifth
 fifth_last : (s d p a b e c : Bool) → (s && d && p && a && b && e && c) ≡ ((s && d && p && a && e && c) && b)
 fifth_last s d p a false e c = ap (λ t. t && e && c) (and_right (s && d && p && a) false refl) ∙ sym (and_right (s && d && p && a && e && c) false refl)
 fifth_last s d p a true e c = ap (λ t. t && e && c) (and_true (s && d && p && a)) ∙ sym (and_true (s && d && p && a && e && c))
 
+-- the sixth
 sixth_last : (s d p a b e c : Bool) → (s && d && p && a && b && e && c) ≡ ((s && d && p && a && b && c) && e)
 sixth_last s d p a b e c = and_swap (s && d && p && a && b) e c
 
@@ -121,6 +134,7 @@ other_address : AddressField → Block → Header → Bool
 other_address Src b h = ternary_has b.dst h.dst && span_has b.proto h.proto && span_has b.a h.a && span_has b.b h.b && span_has b.est (flag_number h.est) && span_has b.dscp h.dscp
 other_address Dst b h = ternary_has b.src h.src && span_has b.proto h.proto && span_has b.a h.a && span_has b.b h.b && span_has b.est (flag_number h.est) && span_has b.dscp h.dscp
 
+-- the same for a field with a span
 other_span : SpanField → Block → Header → Bool
 other_span Proto b h = ternary_has b.src h.src && ternary_has b.dst h.dst && span_has b.a h.a && span_has b.b h.b && span_has b.est (flag_number h.est) && span_has b.dscp h.dscp
 other_span A b h = ternary_has b.src h.src && ternary_has b.dst h.dst && span_has b.proto h.proto && span_has b.b h.b && span_has b.est (flag_number h.est) && span_has b.dscp h.dscp
@@ -134,6 +148,7 @@ unfolding has_with_address other_address
 address_apart Src b h p = first_last (ternary_has p h.src) (ternary_has b.dst h.dst) (span_has b.proto h.proto) (span_has b.a h.a) (span_has b.b h.b) (span_has b.est (flag_number h.est)) (span_has b.dscp h.dscp)
 address_apart Dst b h p = second_last (ternary_has b.src h.src) (ternary_has p h.dst) (span_has b.proto h.proto) (span_has b.a h.a) (span_has b.b h.b) (span_has b.est (flag_number h.est)) (span_has b.dscp h.dscp)
 
+-- the same for a field with a span
 span_apart : (field : SpanField) (b : Block) (h : Header) (s : Span) → has_with_span field s b h ≡ (other_span field b h && span_has s (span_number field h))
 unfolding has_with_span other_span
 span_apart Proto b h s = third_last (ternary_has b.src h.src) (ternary_has b.dst h.dst) (span_has s h.proto) (span_has b.a h.a) (span_has b.b h.b) (span_has b.est (flag_number h.est)) (span_has b.dscp h.dscp)
@@ -142,6 +157,7 @@ span_apart B b h s = fifth_last (ternary_has b.src h.src) (ternary_has b.dst h.d
 span_apart Est b h s = sixth_last (ternary_has b.src h.src) (ternary_has b.dst h.dst) (span_has b.proto h.proto) (span_has b.a h.a) (span_has b.b h.b) (span_has s (flag_number h.est)) (span_has b.dscp h.dscp)
 span_apart Dscp b h s = refl
 
+-- a block with its own pattern is itself
 pub own_address : (field : AddressField) (b : Block) (h : Header) → has_with_address field (address_of field b) b h ≡ block_has b h
 unfolding has_with_address block_has
 own_address Src b h = refl
@@ -155,6 +171,7 @@ same_address field b h p q same =
     ∙ ap (λ t. other_address field b h && t) (pattern_same p.value p.wild q.value q.wild v (λ i l. λ j. (same i l).wild j || same_flag (has_bit v i) ((same i l).value j)))
     ∙ sym (address_apart field b h q)
 
+-- a block with its own span is itself
 pub own_span : (field : SpanField) (b : Block) (h : Header) → has_with_span field (span_of field b) b h ≡ block_has b h
 unfolding has_with_span block_has
 own_span Proto b h = refl
@@ -174,6 +191,7 @@ address_sum field b h p q r parts =
     taken None = and_right (other_address field b h) false refl
     taken (Some t) = sym (address_apart field b h t)
 
+-- a number of a span is in its part, below or above
 number_parts : (low high from to v : ℕ) → low ≤ from → from ≤ to → to ≤ high → flag_number (nat_le low v && nat_le v high) ≡ flag_number (nat_le from v && nat_le v to) + flag_number ((nat_le low v && nat_le v high) && nat_lt v from) + flag_number ((nat_le low v && nat_le v high) && nat_lt to v)
 number_parts low high from to v l m r = grind (arith, nat_tests)
 
@@ -181,6 +199,7 @@ number_parts low high from to v l m r = grind (arith, nat_tests)
 span_parts : (whole part : Span) → IsPartOf part whole → (v : ℕ) → flag_number (span_has whole v) ≡ flag_number (span_has part v) + flag_number (span_has whole v && nat_lt v part.low) + flag_number (span_has whole v && nat_lt part.high v)
 span_parts whole part inside v = number_parts whole.low whole.high part.low part.high v inside.low part.ordered inside.high
 
+-- where a span falls into three, so do the headers of the block
 span_sum : (field : SpanField) (b : Block) (h : Header) (part : Span) (below above : Option Span) → IsPartOf part (span_of field b) → ((v : ℕ) → some_has span_has below v ≡ (span_has (span_of field b) v && nat_lt v part.low)) → ((v : ℕ) → some_has span_has above v ≡ (span_has (span_of field b) v && nat_lt part.high v)) → flag_number (block_has b h) ≡ flag_number (has_with_span field part b h) + flag_number (some_has (λ s. has_with_span field s b) below h) + flag_number (some_has (λ s. has_with_span field s b) above h)
 span_sum field b h part below above inside lower upper =
     ap flag_number (sym (own_span field b h) ∙ span_apart field b h (span_of field b))
@@ -191,6 +210,7 @@ span_sum field b h part below above inside lower upper =
     piece None = and_right (other_span field b h) false refl
     piece (Some s) = sym (span_apart field b h s)
 
+-- the same for a span that is known by an equation
 pub span_sum_of : (field : SpanField) (b : Block) (h : Header) (part own : Span) (below above : Option Span) → own ≡ span_of field b → IsPartOf part (span_of field b) → ((v : ℕ) → some_has span_has below v ≡ (span_has own v && nat_lt v part.low)) → ((v : ℕ) → some_has span_has above v ≡ (span_has own v && nat_lt part.high v)) → flag_number (block_has b h) ≡ flag_number (has_with_span field part b h) + flag_number (some_has (λ s. has_with_span field s b) below h) + flag_number (some_has (λ s. has_with_span field s b) above h)
 span_sum_of field b h part own below above e inside lower upper =
     span_sum field b h part below above inside
@@ -199,18 +219,22 @@ span_sum_of field b h part own below above e inside lower upper =
 
 -- ---- counts
 
+-- no blocks have no header
 pub count_none : (h : Header) → count_having [] h ≡ 0
 unfolding count_having
 count_none h = refl
 
+-- a test as a number
 flag_cond : (b : Bool) → cond b 1 0 ≡ flag_number b
 flag_cond false = refl
 flag_cond true = refl
 
+-- a block more at the end
 pub count_push : (bs : List Block) (b : Block) (h : Header) → count_having (bs ++ b ∷ []) h ≡ count_having bs h + flag_number (block_has b h)
 unfolding count_having
 count_push bs b h = sum_by_push (λ x. cond (block_has x h) 1 0) bs b ∙ ap (λ n. count_by (λ x. block_has x h) bs + n) (flag_cond (block_has b h))
 
+-- a block more at the start
 pub count_cons : (bs : List Block) (b : Block) (h : Header) → count_having (b ∷ bs) h ≡ flag_number (block_has b h) + count_having bs h
 unfolding count_having
 count_cons bs b h = sum_by-cons (λ x. cond (block_has x h) 1 0) b bs ∙ ap (λ n. n + count_by (λ x. block_has x h) bs) (flag_cond (block_has b h))
@@ -257,6 +281,7 @@ pub count_append : (bs cs : List Block) (h : Header) → count_having (bs ++ cs)
 unfolding count_having
 count_append bs cs h = sum_by-append (λ b. cond (block_has b h) 1 0) bs cs
 
+-- some block of two lists
 pub any_append : (bs cs : List Block) (h : Header) → any_has (bs ++ cs) h ≡ (any_has bs h || any_has cs h)
 any_append bs cs h = list_any-append (λ b. block_has b h) bs cs
 
@@ -310,9 +335,11 @@ count_alone x y apart h = count_cons [] x h ∙ ap (λ n. flag_number (block_has
 
 -- what the counts say of a difference
 module _ (x y : Block) (bs : List Block) (once : (h : Header) → count_having bs h ≡ flag_number (block_has x h && not (block_has y h))) where
+  -- together the blocks have what the second lacks
   pub difference_together : (h : Header) → any_has bs h ≡ (block_has x h && not (block_has y h))
   difference_together h = any_from_count bs h (block_has x h && not (block_has y h)) (once h)
 
+  -- and no two of them have a header in common
   pub difference_disjoint : AreDisjoint bs
   difference_disjoint = disjoint_from_count bs (λ h. omega (arith, once h, flag_small (block_has x h && not (block_has y h))))
 

@@ -21,6 +21,7 @@ use Rattle.np_space.proofs.HeaderLemmas.{order_ties}
 
 -- ---- the order of one field
 
+-- steps of an order may be grouped either way
 then_then : (o p q : Ordering) → ordering_then o (ordering_then p q) ≡ ordering_then (ordering_then o p) q
 then_then Less p q = refl
 then_then Equal p q = refl
@@ -48,6 +49,7 @@ digits_order unit a (suc (suc b)) x y la lb lx ly = absurd (omega arith)
 top_bit : (n k : ℕ) → n % 2 ^ suc k ≡ bit_at n k * 2 ^ k + n % 2 ^ k
 top_bit n k = ap (λ j. n % 2 ^ j) (omega arith) ∙ mod-pow-add n 1 k
 
+-- the lowest bits of two numbers stand in the order of what they are worth
 bits_order : (k x y : ℕ) (xs ys : List ℕ) → slice_cmp nat_cmp (low_bits k x ++ xs) (low_bits k y ++ ys) ≡ ordering_then (nat_cmp (x % 2 ^ k) (y % 2 ^ k)) (slice_cmp nat_cmp xs ys)
 unfolding low_bits
 bits_order zero x y xs ys = (λ i. ordering_then (nat_cmp (none x i) (none y i)) (slice_cmp nat_cmp xs ys))
@@ -65,6 +67,7 @@ bits_order (suc k) x y xs ys =
 record InOrder (fields others : List (ℕ × ℕ)) : Type 0 where
   same : slice_cmp nat_cmp (map (λ field. field.1) fields) (map (λ field. field.1) others) ≡ slice_cmp nat_cmp (bits_of fields) (bits_of others)
 
+-- none stand so
 no_fields : InOrder [] []
 unfolding bits_of
 no_fields = record { same = refl }
@@ -78,6 +81,7 @@ before_fields {fields = fields} {others = others} width x y lx ly rest = record 
       ∙ sym (bits_order width x y (bits_of fields) (bits_of others));
 }
 
+-- so do the fields of two headers
 header_fields_order : (x y : Header) → HasWidths x → HasWidths y → InOrder (header_fields x) (header_fields y)
 header_fields_order x y v w =
     before_fields 32 x.src y.src v.src w.src (before_fields 32 x.dst y.dst v.dst w.dst (before_fields 8 x.proto y.proto v.proto w.proto (before_fields 16 x.a y.a v.a w.a (before_fields 16 x.b y.b v.b w.b (before_fields 1 (flag_number x.est) (flag_number y.est) (one x) (one y) (before_fields 6 x.dscp y.dscp v.dscp w.dscp no_fields))))))
@@ -85,36 +89,43 @@ header_fields_order x y v w =
     one : (h : Header) → flag_number h.est < 2 ^ 1
     one h = omega (arith, flag_small h.est)
 
+-- the order of two headers is that of their bits
 pub order_by_bits : OrderIsByBits
 unfolding header_order
 order_by_bits x y v w = (header_fields_order x y v w).same
 
+-- equal bits tie, and only equal headers do
 pub equal_from_bits : EqualFromBits
 equal_from_bits x y v w same =
     order_ties x y (order_by_bits x y v w ∙ ap (λ bits. slice_cmp nat_cmp (header_bits x) bits) (sym same) ∙ tied_itself nat_list_cmp_total (header_bits x))
 
 -- ---- how many bits there are, and where each stands
 
+-- as many bits as the width says
 length-low_bits : (k n : ℕ) → length (low_bits k n) ≡ k
 unfolding low_bits
 length-low_bits zero n = refl
 length-low_bits (suc k) n = ap suc (length-low_bits k n)
 
+-- as many bits as the widths say together
 length-bits_of : (fields : List (ℕ × ℕ)) → length (bits_of fields) ≡ width_of fields
 unfolding bits_of width_of
 length-bits_of [] = refl
 length-bits_of (field ∷ fields) = length-append (low_bits field.0 field.1) (bits_of fields) ∙ (λ i. length-low_bits field.0 field.1 i + length-bits_of fields i)
 
+-- the widths of a header come to 111
 pub all_bits : HaveAllBits
 unfolding width_of
 all_bits h = length-bits_of (header_fields h)
 
+-- the bit at a place of the first number
 low_bit : (k n i d : ℕ) (rest : List ℕ) → i < k → slice_index_or (low_bits k n ++ rest) i d ≡ bit_at n (k - 1 - i)
 unfolding low_bits
 low_bit zero n i d rest l = absurd (omega arith)
 low_bit (suc k) n zero d rest l = ap (λ j. bit_at n j) (omega arith)
 low_bit (suc k) n (suc i) d rest l = low_bit k n i d rest (omega arith) ∙ ap (λ j. bit_at n j) (omega arith)
 
+-- the bits of the numbers before it come first
 in_place : (before after : List (ℕ × ℕ)) (width n i d : ℕ) → i < width → slice_index_or (bits_of (before ++ (width, n) ∷ after)) (width_of before + i) d ≡ bit_at n (width - 1 - i)
 unfolding bits_of width_of
 in_place [] after width n i d l =
@@ -125,5 +136,6 @@ in_place (field ∷ before) after width n i d l =
     ∙ get_or-append-add (low_bits field.0 field.1) (bits_of (before ++ (width, n) ∷ after)) (width_of before + i) d
     ∙ in_place before after width n i d l
 
+-- so it is in a header
 pub bits_in_place : BitsAreInPlace
 bits_in_place = in_place

@@ -1,9 +1,9 @@
 -- What a block has, field by field.
 use Rattle.std.proofs.Common.{◌≡◌, ℕ, zero, suc, ◌≤◌, true, refl, ◌∙◌, ap, arith}
-use Rattle.std.specs.Prelude.{nat_le, ◌&&◌, ◌==◌}
+use Rattle.std.specs.Prelude.{◌&&◌, ◌==◌}
 use Rattle.std.proofs.lemmas.Bool.{and_parts, leb-true, le-leb}
 use Rattle.np_space.specs.Flag.{flag_number}
-use Rattle.np_space.specs.Header.{HasWidths, IsLeast}
+use Rattle.np_space.specs.Header.{IsLeast}
 use Rattle.np_space.specs.Span.{span_has}
 use Rattle.np_space.specs.Ternary.{ternary_has}
 use Rattle.np_space.specs.Block.{block_has}
@@ -12,7 +12,7 @@ use Rattle.np_space.specs.declared.spans.Span.{Span}
 use Rattle.np_space.specs.declared.blocks.Block.{Block}
 use Rattle.np_space.proofs.FlagLemmas.{and_both}
 use Rattle.np_space.proofs.OrderLemmas.{le_by_fields}
-use Rattle.np_space.proofs.PatternLemmas.{pattern_width, has_least_value, least_value}
+use Rattle.np_space.proofs.PatternLemmas.{has_least_value, least_value}
 
 -- what the block says of a header, field by field
 pub record FieldsIn (block : Block) (h : Header) : Type 0 where
@@ -24,6 +24,7 @@ pub record FieldsIn (block : Block) (h : Header) : Type 0 where
   pub est : span_has block.est (flag_number h.est) ≡ true
   pub dscp : span_has block.dscp h.dscp ≡ true
 
+-- a header in a block is in it field by field
 pub fields_in : (b : Block) (h : Header) → block_has b h ≡ true → FieldsIn b h
 unfolding block_has
 fields_in b h has =
@@ -35,6 +36,7 @@ fields_in b h has =
     let addresses = and_parts _ _ proto.0 in
     record { src = addresses.0; dst = addresses.1; proto = proto.1; a = a.1; b = ports.1; est = est.1; dscp = dscp.1 }
 
+-- and a header that is in it field by field is in the block
 pub fields_all : (b : Block) (h : Header) → FieldsIn b h → block_has b h ≡ true
 unfolding block_has
 fields_all b h f = λ i. f.src i && f.dst i && f.proto i && f.a i && f.b i && f.est i && f.dscp i
@@ -43,6 +45,7 @@ fields_all b h f = λ i. f.src i && f.dst i && f.proto i && f.a i && f.b i && f.
 pub span_has_low : (s : Span) → span_has s s.low ≡ true
 span_has_low s = and_both _ _ (le-leb s.low s.low (omega arith)) (le-leb s.low s.high s.ordered)
 
+-- no number of a span is below its least
 pub span_low : (s : Span) (x : ℕ) → span_has s x ≡ true → s.low ≤ x
 span_low s x has = leb-true s.low x (and_parts _ _ has).0
 
@@ -56,9 +59,11 @@ flag_of zero l = refl
 flag_of (suc zero) l = refl
 flag_of (suc (suc n)) l = absurd (omega arith)
 
+-- the least flag as a number
 pub least_flag : (b : Block) → flag_number (b.est.low == 1) ≡ b.est.low
 least_flag b = flag_of b.est.low (omega (arith, b.est.ordered, b.est_width))
 
+-- a block has its least header
 pub has_least : (b : Block) → block_has b (least_of b) ≡ true
 has_least b = fields_all b (least_of b) (record {
   src = has_least_value b.src;
@@ -70,6 +75,7 @@ has_least b = fields_all b (least_of b) (record {
   dscp = span_has_low b.dscp;
 })
 
+-- and no header of it stands before that
 pub least_is : (b : Block) → IsLeast (block_has b) (least_of b)
 least_is b = record {
   has = has_least b;
@@ -78,19 +84,3 @@ least_is b = record {
       le_by_fields (least_of b) h (least_value b.src h.src f.src) (least_value b.dst h.dst f.dst) (span_low b.proto h.proto f.proto)
       (span_low b.a h.a f.a) (span_low b.b h.b f.b) (omega (arith, least_flag b, span_low b.est (flag_number h.est) f.est)) (span_low b.dscp h.dscp f.dscp);
 }
-
--- the fields of a header in a block are numbers of their widths
-pub block_widths : (b : Block) (h : Header) → block_has b h ≡ true → HasWidths h
-block_widths b h has =
-    let f = fields_in b h has in
-    record {
-      src = pattern_width b.src.value b.src.wild h.src f.src;
-      dst = pattern_width b.dst.value b.dst.wild h.dst f.dst;
-      proto = omega (arith, span_high b.proto h.proto f.proto, b.proto_width);
-      a = omega (arith, span_high b.a h.a f.a, b.a.width);
-      b = omega (arith, span_high b.b h.b f.b, b.b.width);
-      dscp = omega (arith, span_high b.dscp h.dscp f.dscp, b.dscp_width);
-    }
-  where
-    span_high : (s : Span) (x : ℕ) → span_has s x ≡ true → x ≤ s.high
-    span_high s x has = leb-true x s.high (and_parts (nat_le s.low x) (nat_le x s.high) has).1

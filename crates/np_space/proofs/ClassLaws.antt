@@ -18,13 +18,16 @@ use Rattle.np_space.specs.Classes.{cuts_say, IsAlike, IsLeastAlike, HasAlike, Ar
 
 -- ---- one test more
 
+-- what one cut more says comes last
 said_more : (tests : List (Header → Bool)) (test : Header → Bool) (h : Header) → cuts_say (tests ++ test ∷ []) h ≡ cuts_say tests h ++ test h ∷ []
 said_more tests test h = map-append (λ t. t h) tests (test ∷ [])
 
+-- alike headers of which one test more says the same
 pub alike_more : (tests : List (Header → Bool)) (test : Header → Bool) (h k : Header) → IsAlike tests h k → test h ≡ test k → IsAlike (tests ++ test ∷ []) h k
 alike_more tests test h k alike same =
     said_more tests test h ∙ (λ i. alike i ++ same i ∷ []) ∙ sym (said_more tests test k)
 
+-- headers that are alike by one test more
 pub alike_fewer : (tests : List (Header → Bool)) (test : Header → Bool) (h k : Header) → IsAlike (tests ++ test ∷ []) h k → IsAlike tests h k × (test h ≡ test k)
 alike_fewer [] test h k alike = (refl, cc)
 alike_fewer (t ∷ tests) test h k alike =
@@ -35,10 +38,12 @@ alike_fewer (t ∷ tests) test h k alike =
 
 -- ---- what the order of headers decides
 
+-- no header stands before an equal one
 not_before_itself : (x y : Header) → x ≡ y → header_order x y ≡ Less → ⊥
 not_before_itself x y e less =
     let tied : header_order x y ≡ Equal = ap (λ w. header_order x w) (sym e) ∙ tied_itself order_total x in cc
 
+-- no two headers stand before each other
 not_both_before : (x y : Header) → header_order x y ≡ Less → header_order y x ≡ Less → ⊥
 not_both_before x y less more =
     let turned : Less ≡ Greater = sym less ∙ order_total.antisymm x y ∙ ap ordering_reverse more in cc
@@ -54,15 +59,19 @@ before_from_distinct x y upto apart = by (header_order x y) (header_order y x) (
 
 -- ---- lists that ascend
 
+-- the empty list has no header
 none : (x : Header) → Contains [] x → ⊥
 none x c = let below : c.0 < 0 = c.1 in omega arith
 
+-- a list has its first header
 here : (x : Header) (xs : List Header) → Contains (x ∷ xs) x
 here x xs = Contains-append_left (x ∷ []) xs x (Contains-push [] x)
 
+-- a list has the headers of its rest
 later : (x : Header) (xs : List Header) (z : Header) → Contains xs z → Contains (x ∷ xs) z
 later x xs z c = Contains-append_right (x ∷ []) xs z c
 
+-- a header of a list is its first or in its rest
 head_or_later : (x : Header) (xs : List Header) (z : Header) → Contains (x ∷ xs) z → (x ≡ z) ⊎ Contains xs z
 head_or_later x xs z c =
     elim (Contains-append_cases (x ∷ []) xs z c) [ inl first ↦ only (Contains-push_cases [] x z first) | inr rest ↦ inr rest ]
@@ -84,15 +93,16 @@ same_heads x y xs ys up up' c d =
           ]
     ]
 
--- and what is behind the first of one is behind the first of the other
-behind_heads : (x y : Header) (xs ys : List Header) → x ≡ y → AllByRecursion (λ z. header_order x z ≡ Less) xs → ((z : Header) → Contains (x ∷ xs) z → Contains (y ∷ ys) z) → (z : Header) → Contains xs z → Contains ys z
-behind_heads x y xs ys e up among z c =
+-- and what comes after the first of one comes after the first of the other
+after_heads : (x y : Header) (xs ys : List Header) → x ≡ y → AllByRecursion (λ z. header_order x z ≡ Less) xs → ((z : Header) → Contains (x ∷ xs) z → Contains (y ∷ ys) z) → (z : Header) → Contains xs z → Contains ys z
+after_heads x y xs ys e up among z c =
     elim (head_or_later y ys z (among z (later x xs z c))) [
       | inl p ↦
           absurd (not_before_itself x z (e ∙ p) (All-contains (λ w. header_order x w ≡ Less) xs z (All-from_recursion (λ w. header_order x w ≡ Less) xs up) c))
       | inr q ↦ q
     ]
 
+-- lists that ascend and have the same headers are equal
 same_lists : (xs ys : List Header) → IsStrictlySortedBy header_order xs → IsStrictlySortedBy header_order ys → ((z : Header) → Contains xs z → Contains ys z) → ((z : Header) → Contains ys z → Contains xs z) → xs ≡ ys
 unfolding IsStrictlySortedBy
 same_lists [] [] up up' f g = refl
@@ -100,7 +110,7 @@ same_lists [] (y ∷ ys) up up' f g = absurd (none y (g y (here y ys)))
 same_lists (x ∷ xs) [] up up' f g = absurd (none x (f x (here x xs)))
 same_lists (x ∷ xs) (y ∷ ys) up up' f g =
     let heads : x ≡ y = same_heads x y xs ys up.0 up'.0 (f x (here x xs)) (g y (here y ys)) in
-    let tails : xs ≡ ys = same_lists xs ys up.1 up'.1 (behind_heads x y xs ys heads up.0 f) (behind_heads y x ys xs (sym heads) up'.0 g) in
+    let tails : xs ≡ ys = same_lists xs ys up.1 up'.1 (after_heads x y xs ys heads up.0 f) (after_heads y x ys xs (sym heads) up'.0 g) in
     (λ i. heads i ∷ tails i)
 
 -- ---- the leasts are unique
@@ -115,6 +125,7 @@ among tests xs ys a b z c =
     le_both_ways z found.one (first.least found.one second.valid (sym found.alike)) (second.least z first.valid found.alike) in
     subst (λ w. Contains ys w) (sym same) found.listed
 
+-- the tests determine the least members
 pub leasts_are_unique : LeastsAreUnique
 leasts_are_unique tests xs ys a b = same_lists xs ys a.ascending b.ascending (among tests xs ys a b) (among tests ys xs b a)
 
@@ -132,6 +143,7 @@ before_later (x ∷ xs) (suc i) (suc j) d up l m = before_later xs i j d up.1 (o
 same_least : (tests : List (Header → Bool)) (x y : Header) → IsLeastAlike tests x → IsLeastAlike tests y → IsAlike tests x y → x ≡ y
 same_least tests x y p q alike = le_both_ways x y (p.least y q.valid alike) (q.least x p.valid (sym alike))
 
+-- places of alike least members are the same place
 pub one_for_each_class : OneForEachClass
 one_for_each_class tests xs are i j d l m alike = by (cases_eq i j)
   where
@@ -148,13 +160,16 @@ one_for_each_class tests xs are i j d l m alike = by (cases_eq i j)
 
 -- ---- no cuts
 
+-- the header of zeros is valid
 pub zeros_valid : is_valid_header zeros ≡ true
 unfolding is_valid_header
 zeros_valid = refl
 
+-- it stands before every other
 zeros_least : (h : Header) → header_le zeros h ≡ true
 zeros_least h = le_by_fields zeros h (omega arith) (omega arith) (omega arith) (omega arith) (omega arith) (omega arith) (omega arith)
 
+-- without cuts it alone is a least member
 zeros_alone : AreLeasts [] (zeros ∷ [])
 unfolding IsStrictlySortedBy
 zeros_alone =
@@ -164,5 +179,6 @@ zeros_alone =
       reached = λ h v. record { one = zeros; listed = here zeros []; alike = refl };
     }
 
+-- so no other list is that of the least members
 pub one_class_without_cuts : OneClassWithoutCuts
 one_class_without_cuts leasts are = leasts_are_unique [] leasts (zeros ∷ []) are zeros_alone

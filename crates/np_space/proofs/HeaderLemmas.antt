@@ -37,26 +37,33 @@ valid_widths h valid =
       dscp = ltb-true h.dscp (2 ^ 6) before_dscp.1;
     }
 
+-- and such numbers pass the test
 widths_valid : (h : Header) → HasWidths h → has_widths h ≡ true
 widths_valid h w = λ i.
     lt-ltb h.src (2 ^ 32) w.src i && lt-ltb h.dst (2 ^ 32) w.dst i && lt-ltb h.proto (2 ^ 8) w.proto i && lt-ltb h.a (2 ^ 16) w.a i && lt-ltb h.b (2 ^ 16) w.b i && lt-ltb h.dscp (2 ^ 6) w.dscp i
 
+-- the flag asks for TCP
 flag_rule : (p : ℕ) (e : Bool) → (p == 6 || not e) ≡ true → e ≡ true → p ≡ 6
 flag_rule p e h f = grind (arith, nat_tests)
 
+-- and the test holds where it does
 rule_flag : (p : ℕ) (e : Bool) → (e ≡ true → p ≡ 6) → (p == 6 || not e) ≡ true
 rule_flag p false f = or_right (p == 6) true refl
 rule_flag p true f = or_left (p == 6) false (eq-eqb p 6 (f refl))
 
+-- the type and the code of ICMP are below 256
 typed_rule : (a b : ℕ) → numbers_fit 1 a b ≡ true → (a < 256) × (b < 256)
 typed_rule a b h = let both = and_parts (nat_lt a 256) (nat_lt b 256) h in (ltb-true a 256 both.0, ltb-true b 256 both.1)
 
+-- for another protocol both numbers are 0
 bare_fit : (p a b : ℕ) → p ≢ 1 → p ≢ 6 → p ≢ 17 → numbers_fit p a b ≡ (a == 0 && b == 0)
 bare_fit p a b n1 n6 n17 = (λ i. if ((ne_eqb p 6 n6 i) || (ne_eqb p 17 n17 i)) then true else (if (ne_eqb p 1 n1 i) then nat_lt a 256 && nat_lt b 256 else (a == 0 && b == 0)))
 
+-- so they are where the test holds
 bare_rule : (p a b : ℕ) → p ≢ 1 → p ≢ 6 → p ≢ 17 → numbers_fit p a b ≡ true → (a ≡ 0) × (b ≡ 0)
 bare_rule p a b n1 n6 n17 h = let both = and_parts (a == 0) (b == 0) (sym (bare_fit p a b n1 n6 n17) ∙ h) in (eqb-true a 0 both.0, eqb-true b 0 both.1)
 
+-- and the test holds where each rule does
 rule_numbers : (p a b : ℕ) → (p ≡ 1 → (a < 256) × (b < 256)) → (p ≢ 1 → p ≢ 6 → p ≢ 17 → (a ≡ 0) × (b ≡ 0)) → numbers_fit p a b ≡ true
 rule_numbers p a b typed bare =
     elim (cases_eq p 1) [
@@ -70,6 +77,7 @@ rule_numbers p a b typed bare =
       ]
     ]
 
+-- validity is what its rules say
 pub valid_as_stated : ValidAsStated
 unfolding is_valid_header
 valid_as_stated h = (
@@ -86,6 +94,7 @@ valid_as_stated h = (
       widths_valid h packet.widths i && rule_flag h.proto h.est packet.flagged i && rule_numbers h.proto h.a h.b packet.typed packet.bare i),
 )
 
+-- the order is total
 pub order_total : IsTotalOrder header_order
 unfolding header_order
 order_total = on_texts header_numbers
@@ -99,6 +108,7 @@ first_tied x y o h = by (nat_cmp x y) (ranked x y (nat_cmp x y) refl) h
     by Equal m e = (m, e)
     by Greater m e = absurd (cc)
 
+-- only equal lists tie
 numbers_tied : (xs ys : List ℕ) → slice_cmp nat_cmp xs ys ≡ Equal → xs ≡ ys
 numbers_tied [] [] h = refl
 numbers_tied [] (y ∷ ys) h = cc
@@ -108,12 +118,14 @@ numbers_tied (x ∷ xs) (y ∷ ys) h =
     let rest = numbers_tied xs ys first.1 in
     cc
 
+-- flags with the same number are equal
 flags_tied : (s t : Bool) → flag_number s ≡ flag_number t → s ≡ t
 flags_tied false false h = refl
 flags_tied false true h = absurd (omega arith)
 flags_tied true false h = absurd (omega arith)
 flags_tied true true h = refl
 
+-- only equal headers tie
 pub order_ties : TieOnlyWhenEqual
 unfolding header_order
 order_ties x y h =

@@ -24,12 +24,15 @@ use Rattle.np_space.proofs.PatternLemmas.{of_same, pattern_at, pattern_from, pat
 -- ---- a pattern, a span and a block are their numbers
 
 module _ (v w : ℕ) where
+  -- what the ghost fields of a pattern say
   abbrev TernaryFacts : Type 0
   TernaryFacts = (bit_and v w ≡ 0) × (v < 2 ^ 32) × (w < 2 ^ 32)
 
+  -- they say it in one way
   ternary_facts_prop : IsProp TernaryFacts
   ternary_facts_prop = hlevel props
 
+  -- the pattern of these numbers
   abbrev ternary_with : TernaryFacts → Ternary
   ternary_with x = record { value = v; wild = w; cleared = x.0; value_width = x.1; wild_width = x.2 }
 
@@ -44,12 +47,15 @@ same_ternary p q e f =
     two (q.cleared, q.value_width, q.wild_width)
 
 module _ (l h : ℕ) where
+  -- what the ghost fields of a span say
   abbrev SpanFacts : Type 0
   SpanFacts = (l ≤ h) × (h < 2 ^ 16)
 
+  -- they say it in one way
   span_facts_prop : IsProp SpanFacts
   span_facts_prop = hlevel props
 
+  -- the span of these numbers
   abbrev span_with : SpanFacts → Span
   span_with x = record { low = l; high = h; ordered = x.0; width = x.1 }
 
@@ -68,12 +74,15 @@ abbrev Fields : Type 0
 Fields = Ternary × Ternary × Span × Span × Span × Span × Span
 
 module _ (t : Fields) where
+  -- what the ghost fields of a block say
   abbrev BlockFacts : Type 0
   BlockFacts = (t.2.high ≤ 255) × (t.5.high ≤ 1) × (t.6.high ≤ 63)
 
+  -- they say it in one way
   block_facts_prop : IsProp BlockFacts
   block_facts_prop = hlevel props
 
+  -- the block of these fields
   abbrev block_with : BlockFacts → Block
   block_with x = record { src = t.0; dst = t.1; proto = t.2; a = t.3; b = t.4; est = t.5; dscp = t.6; proto_width = x.0; est_width = x.1; dscp_width = x.2 }
 
@@ -92,10 +101,12 @@ same_block p q src dst proto a b est dscp =
 
 -- ---- spans
 
+-- its least number
 pub low-span_from : (low high : ℕ) → low ≤ high → high ≤ 65535 → (span_from low high).low ≡ low
 unfolding span_from
 low-span_from low high ordered small = omega arith
 
+-- its greatest number
 pub high-span_from : (low high : ℕ) → high ≤ 65535 → (span_from low high).high ≡ high
 unfolding span_from
 high-span_from low high small = omega arith
@@ -111,6 +122,7 @@ pub span_from-has : (low high x : ℕ) → low ≤ high → high ≤ 65535 → s
 span_from-has low high x ordered small =
     (λ i. nat_le (low-span_from low high ordered small i) x && nat_le x (high-span_from low high small i))
 
+-- a span of one number has that number alone
 pub span_only-has : (n x : ℕ) → n ≤ 65535 → span_has (span_from n n) x ≡ (x == n)
 span_only-has n x small = span_from-has n n x (omega arith) small ∙ by
   where
@@ -129,6 +141,7 @@ widest_has x =
     wild : (i : ℕ) → i < 32 → has_bit 4294967295 i ≡ true
     wild i l = bit-not 0 i (omega arith) l ∙ ap not (bit-zero i)
 
+-- every number of 32 bits is an address
 pub any_address-has : (x : ℕ) → ternary_has any_address x ≡ nat_lt x (2 ^ 32)
 unfolding any_address
 any_address-has x = widest_has x
@@ -142,10 +155,12 @@ pub value-pattern : (value wild : ℕ) → value < 2 ^ 32 → wild < 2 ^ 32 → 
 unfolding pattern
 value-pattern value wild v w = ap (λ x. bit_and x (4294967295 - wild)) (own_word value v) ∙ ap (λ x. bit_and (value % 2 ^ 32) (4294967295 - x)) (own_word wild w)
 
+-- its wild bits are those given
 pub wild-pattern : (value wild : ℕ) → wild < 2 ^ 32 → wild ≡ (pattern value wild).wild
 unfolding pattern
 wild-pattern value wild w = own_word wild w
 
+-- it has what the two words say
 pub pattern-has : (value wild x : ℕ) → value < 2 ^ 32 → wild < 2 ^ 32 → ternary_has (pattern value wild) x ≡ pattern_has value wild x
 pattern-has value wild x v w =
     sym (λ i. pattern_has (value-pattern value wild v w i) (wild-pattern value wild w i) x) ∙ of_same value wild x w
@@ -159,15 +174,18 @@ value_alone value x v =
     (λ same. let e = eqb-true x value same in pattern_from value 0 x (omega arith) (λ i l.
     or_right (has_bit 0 i) (same_flag (has_bit x i) (has_bit value i)) (ap (λ y. same_flag (has_bit y i) (has_bit value i)) e ∙ same_flag-refl (has_bit value i))))
 
+-- a pattern of one address has it alone
 pub host-has : (address x : ℕ) → address < 2 ^ 32 → ternary_has (host address) x ≡ (x == address)
 host-has address x a = pattern-has address 0 x a (omega arith) ∙ value_alone address x a
 
 -- ---- prefixes
 
+-- the wild bits of a prefix
 pub wild-prefix_pattern : (address length : ℕ) → (prefix_pattern address length).wild ≡ 2 ^ (32 - length) - 1
 unfolding prefix_pattern
 wild-prefix_pattern address length = refl
 
+-- the value of a prefix
 pub value-prefix_pattern : (address length : ℕ) → address < 2 ^ 32 → (prefix_pattern address length).value ≡ address / 2 ^ (32 - length) * 2 ^ (32 - length)
 unfolding prefix_pattern
 value-prefix_pattern address length small = let e : address % 2 ^ 32 ≡ address = omega arith in ap (λ a. a / 2 ^ (32 - length) * 2 ^ (32 - length)) e
@@ -200,6 +218,7 @@ prefix_as_stated p = (
 up_to : (high x : ℕ) → (nat_le 0 x && nat_le x high) ≡ nat_lt x (high + 1)
 up_to high x = grind (arith, nat_tests)
 
+-- a span from 0 has the numbers to its end
 up_to-has : (high x : ℕ) → high ≤ 65535 → span_has (span_from 0 high) x ≡ nat_lt x (high + 1)
 up_to-has high x small = span_from-has 0 high x (omega arith) small ∙ up_to high x
 
@@ -207,6 +226,7 @@ up_to-has high x small = span_from-has 0 high x (omega arith) small ∙ up_to hi
 any_flag : (e : Bool) → span_has (span_from 0 1) (flag_number e) ≡ true
 any_flag e = up_to-has 1 (flag_number e) (omega arith) ∙ lt-ltb (flag_number e) 2 (omega (arith, flag_small e))
 
+-- the widest block has each header of the widths
 pub everything-has : (h : Header) → block_has everything h ≡ has_widths h
 unfolding block_has
 everything-has h =

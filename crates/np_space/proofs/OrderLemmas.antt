@@ -7,26 +7,25 @@ use Rattle.std.specs.declared.cmp.Ordering.{Ordering}
 use Rattle.std.specs.declared.cmp.Ordering.TheVariants.{Less, Equal, Greater}
 use Rattle.std.proofs.Common.{inl, inr}
 use Rattle.std.proofs.lemmas.Bool.{true≢false}
-use Rattle.std.proofs.lemmas.Cmp.{ranked, upto, tied_itself}
+use Rattle.std.proofs.lemmas.Cmp.{ranked, upto}
 use Rattle.np_space.specs.Flag.{flag_number}
 use Rattle.np_space.specs.Header.{header_order, header_le}
 use Rattle.np_space.specs.declared.headers.Header.{Header}
 use Rattle.np_space.proofs.HeaderLemmas.{order_total, order_ties}
 
+-- at most is not greater
 le_gt : (o : Ordering) → is_le o ≡ true → is_gt o ≡ false
 le_gt Less h = refl
 le_gt Equal h = refl
 le_gt Greater h = sym h
 
+-- not greater is at most
 gt_le : (o : Ordering) → is_gt o ≡ false → is_le o ≡ true
 gt_le Less h = refl
 gt_le Equal h = refl
 gt_le Greater h = sym h
 
-pub le_itself : (x : Header) → header_le x x ≡ true
-unfolding header_le
-le_itself x = ap is_le (tied_itself order_total x)
-
+-- `header_le` is transitive
 pub le_chained : (x y z : Header) → header_le x y ≡ true → header_le y z ≡ true → header_le x z ≡ true
 unfolding header_le
 le_chained x y z h g = gt_le (header_order x z) (upto order_total x y z (le_gt (header_order x y) h) (le_gt (header_order y z) g))
@@ -64,6 +63,7 @@ first_le m n o le rest = by (nat_cmp m n) (ranked m n (nat_cmp m n) refl)
     by Equal e = rest
     by Greater gt = absurd (omega arith)
 
+-- so it stands below where all fields do
 pub le_by_fields : (x y : Header) → x.src ≤ y.src → x.dst ≤ y.dst → x.proto ≤ y.proto → x.a ≤ y.a → x.b ≤ y.b → flag_number x.est ≤ flag_number y.est → x.dscp ≤ y.dscp → header_le x y ≡ true
 unfolding header_le header_order
 le_by_fields x y src dst proto a b est dscp =

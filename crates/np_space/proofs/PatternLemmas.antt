@@ -12,6 +12,7 @@ use Rattle.np_space.proofs.FlagLemmas.{same_flag-equal, same_answers, same_flag-
 
 -- ---- from the bits to the pattern
 
+-- the test of all bits says what it says of each
 below_at : (v w x n i : ℕ) → agrees_below v w x n ≡ true → i < n → agrees_at v w x i ≡ true
 unfolding agrees_below
 below_at v w x zero i h l = absurd (omega arith)
@@ -22,6 +23,7 @@ below_at v w x (suc n) i h l =
       | inr ne ↦ below_at v w x n i parts.1 (omega arith)
     ]
 
+-- and holds where each of them does
 below_from : (v w x n : ℕ) → ((i : ℕ) → i < n → agrees_at v w x i ≡ true) → agrees_below v w x n ≡ true
 unfolding agrees_below
 below_from v w x zero h = refl
@@ -38,6 +40,7 @@ pub pattern_width : (v w x : ℕ) → pattern_has v w x ≡ true → x < 2 ^ 32
 unfolding pattern_has
 pattern_width v w x h = ltb-true x (2 ^ 32) (and_parts (nat_lt x (2 ^ 32)) (agrees_below v w x 32) h).0
 
+-- a number of 32 bits that agrees on each bit is in the pattern
 pub pattern_from : (v w x : ℕ) → x < 2 ^ 32 → ((i : ℕ) → i < 32 → agrees_at v w x i ≡ true) → pattern_has v w x ≡ true
 unfolding pattern_has
 pattern_from v w x l h = and_both (nat_lt x (2 ^ 32)) (agrees_below v w x 32) (lt-ltb x (2 ^ 32) l) (below_from v w x 32 h)
@@ -68,6 +71,7 @@ pattern_not v w x i l apart =
 
 -- ---- what a pattern has, in words
 
+-- a pattern has what its bits say
 pub has_as_stated : HasAsStated
 has_as_stated p x = (
   (λ has. record {
@@ -102,6 +106,7 @@ of_bits v w i x lw l =
     by false true m x e = ap (λ b. same_flag x b) e
     by true v m x e = refl
 
+-- so a value that is cleared there has the same numbers
 pub of_same : (v w x : ℕ) → w < 2 ^ 32 → pattern_has (bit_and v (4294967295 - w)) w x ≡ pattern_has v w x
 of_same v w x lw = pattern_same (bit_and v (4294967295 - w)) w v w x (λ i l. of_bits v w i x lw l)
 
@@ -140,14 +145,17 @@ module _ (p q : Ternary) where
   abbrev pub clash : ℕ
   clash = bit_and (bit_xor p.value q.value) (4294967295 - bit_or p.wild q.wild)
 
+  -- the wild bits of both fit a word
   or_width : bit_or p.wild q.wild < 2 ^ 32
   or_width = or_of_32 p.wild q.wild p.wild_width q.wild_width
 
+  -- the bits on which two patterns clash
   pub clash_bit : (i : ℕ) → i < 32 → has_bit clash i ≡ (not (same_flag (has_bit p.value i) (has_bit q.value i)) && not (has_bit p.wild i || has_bit q.wild i))
   clash_bit i l =
       bit-and (bit_xor p.value q.value) (4294967295 - bit_or p.wild q.wild) i
       ∙ (λ j. bit-xor p.value q.value i j && (bit-not (bit_or p.wild q.wild) i or_width l ∙ ap not (bit-or p.wild q.wild i)) j)
 
+  -- where none is set, the patterns are compatible
   pub no_clash : clash ≡ 0 → (i : ℕ) → i < 32 → IsCompatible p q i
   no_clash e i l = by (has_bit p.wild i) (has_bit q.wild i) (has_bit p.value i) (has_bit q.value i) (sym (clash_bit i l) ∙ ap (λ n. has_bit n i) e ∙ bit-zero i)
     where
@@ -159,6 +167,7 @@ module _ (p q : Ternary) where
       by false false true false h ew eu = h
       by false false true true h ew eu = refl
 
+  -- where one is set, they have no number in common
   pub clash_apart : (i : ℕ) → i < 32 → has_bit clash i ≡ true → (x : ℕ) → (ternary_has p x && ternary_has q x) ≡ false
   clash_apart i l set x =
       elim (cases_Bool (ternary_has p x && ternary_has q x)) [
@@ -180,6 +189,7 @@ module _ (p q : Ternary) where
       by false false true false false differ fixed a b = true≢false (sym a)
       by false false true false true differ fixed a b = true≢false (sym b)
 
+  -- the common pattern agrees where both do
   pub meet_bits : (x : ℕ) → clash ≡ 0 → (i : ℕ) → i < 32 → agrees_at (bit_or p.value q.value) (bit_and p.wild q.wild) x i ≡ (agrees_at p.value p.wild x i && agrees_at q.value q.wild x i)
   meet_bits x e i l =
       (λ j. bit-and p.wild q.wild i j || same_flag (has_bit x i) (bit-or p.value q.value i j))
@@ -201,15 +211,18 @@ module _ (p q : Ternary) where
       by false false false true x clear_v clear_t same = absurd (true≢false (sym (same refl refl)))
       by false false true false x clear_v clear_t same = absurd (true≢false (same refl refl))
 
+  -- so it has the common numbers
   pub meet_same : clash ≡ 0 → (x : ℕ) → pattern_has (bit_or p.value q.value) (bit_and p.wild q.wild) x ≡ (ternary_has p x && ternary_has q x)
   meet_same e x = pattern_both p.value p.wild q.value q.wild (bit_or p.value q.value) (bit_and p.wild q.wild) x (meet_bits x e)
 
+  -- patterns that clash have none
   pub clash_none : clash ≢ 0 → (x : ℕ) → false ≡ (ternary_has p x && ternary_has q x)
   clash_none ne x = let at = some_bit clash clash_width (omega arith) in sym (clash_apart at.0 at.1 at.2 x)
     where
       clash_width : clash < 2 ^ 32
       clash_width = omega (arith, and_le_r (bit_xor p.value q.value) (4294967295 - bit_or p.wild q.wild))
 
+  -- its value is cleared on its wild bits
   pub meet_cleared : clash ≡ 0 → bit_and (bit_or p.value q.value) (bit_and p.wild q.wild) ≡ 0
   meet_cleared e =
       same_from_has_bit _ _ (omega (arith, and_le_l (bit_or p.value q.value) (bit_and p.wild q.wild), or_of_32 p.value q.value p.value_width q.value_width)) (omega arith) (λ i l.
@@ -242,9 +255,11 @@ module _ (p q : Ternary) where
 -- ---- one bit fixed
 
 module _ (p : Ternary) (k : ℕ) (within : k < 32) where
+  -- the bit alone
   abbrev mask : ℕ
   mask = 1 * 2 ^ k % 4294967296
 
+  -- it has 32 bits
   mask_width : mask < 2 ^ 32
   mask_width = omega arith
 
@@ -256,12 +271,14 @@ module _ (p : Ternary) (k : ℕ) (within : k < 32) where
   abbrev pub fixed_value : ℕ → ℕ
   fixed_value r = bit_or p.value (bit_and r mask)
 
+  -- the bit is no longer wild
   pub kept_wild-same : has_bit kept_wild k ≡ false
   kept_wild-same =
       bit-and p.wild (4294967295 - mask) k
       ∙ (λ j. has_bit p.wild k && (bit-not mask k mask_width within ∙ ap not (bit-mask_same k within)) j)
       ∙ and_right (has_bit p.wild k) false refl
 
+  -- and the others stay as they are
   pub kept_wild-other : (i : ℕ) → i ≢ k → has_bit kept_wild i ≡ has_bit p.wild i
   kept_wild-other i ne = elim (cases_lt i 32) [
     | inl l ↦
@@ -274,24 +291,29 @@ module _ (p : Ternary) (k : ℕ) (within : k < 32) where
         ∙ sym (bit-above p.wild i p.wild_width l)
   ]
 
+  -- the bit is that of the new value
   pub fixed_value-same : (r : ℕ) → has_bit p.wild k ≡ true → has_bit (fixed_value r) k ≡ has_bit r k
   fixed_value-same r wild =
       bit-or p.value (bit_and r mask) k
       ∙ (λ j. wild_clear p k wild j || (bit-and r mask k ∙ ap (λ b. has_bit r k && b) (bit-mask_same k within)) j)
       ∙ and_true (has_bit r k)
 
+  -- and the others stay as they are
   pub fixed_value-other : (r i : ℕ) → i ≢ k → has_bit (fixed_value r) i ≡ has_bit p.value i
   fixed_value-other r i ne =
       bit-or p.value (bit_and r mask) i
       ∙ (λ j. has_bit p.value i || (bit-and r mask i ∙ ap (λ b. has_bit r i && b) (bit-mask_other k i within ne) ∙ and_right (has_bit r i) false refl) j)
       ∙ or_false (has_bit p.value i)
 
+  -- the new value has 32 bits
   pub fixed_width : (r : ℕ) → fixed_value r < 2 ^ 32
   fixed_width r = or_of_32 p.value (bit_and r mask) p.value_width (omega (arith, mask_width, and_le_r r mask))
 
+  -- so have the wild bits that are left
   kept_width : kept_wild < 2 ^ 32
   kept_width = omega (arith, p.wild_width, and_le_l p.wild (4294967295 - mask))
 
+  -- the new value is cleared on them
   pub fixed_cleared : (r : ℕ) → bit_and (fixed_value r) kept_wild ≡ 0
   fixed_cleared r =
       same_from_has_bit _ _ (omega (arith, fixed_width r, and_le_l (fixed_value r) kept_wild)) (omega arith) (λ i l.
@@ -342,14 +364,17 @@ module _ (p : Ternary) (k : ℕ) (within : k < 32) where
 
 -- the bit k is wild in the first and not in the second: what the code tests
 module _ (p q : Ternary) (k : ℕ) (within : k < 32) where
+  -- the bit, where it is wild here and not there
   abbrev pub opening : ℕ
   opening = bit_and (bit_and p.wild (4294967295 - q.wild)) (1 * 2 ^ k % 4294967296)
 
+  -- each bit of it
   opening_bit : (i : ℕ) → i < 32 → has_bit opening i ≡ ((has_bit p.wild i && not (has_bit q.wild i)) && has_bit (1 * 2 ^ k % 4294967296) i)
   opening_bit i l =
       bit-and (bit_and p.wild (4294967295 - q.wild)) (1 * 2 ^ k % 4294967296) i
       ∙ ap (λ b. b && has_bit (1 * 2 ^ k % 4294967296) i) (bit-and p.wild (4294967295 - q.wild) i ∙ ap (λ b. has_bit p.wild i && b) (bit-not q.wild i q.wild_width l))
 
+  -- where it is 0, nothing is fixed
   pub opening-none : opening ≡ 0 → has_bit p.wild k ≡ true → has_bit q.wild k ≡ true
   opening-none e wild = by (has_bit q.wild k)
       (sym ((λ j. ((sym wild) j && not (has_bit q.wild k)) && (sym (bit-mask_same k within)) j)
@@ -359,6 +384,7 @@ module _ (p q : Ternary) (k : ℕ) (within : k < 32) where
       by true h = refl
       by false h = h
 
+  -- where it is not, the bit is wild here and fixed there
   pub opening-some : opening ≢ 0 → (has_bit p.wild k ≡ true) × (has_bit q.wild k ≡ false)
   opening-some ne =
       let at = some_bit opening width (omega arith) in

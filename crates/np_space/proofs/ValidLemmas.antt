@@ -31,34 +31,42 @@ parts p a b e =
 abbrev fits : ℕ → ℕ → ℕ → Bool → Bool
 fits p a b e = (nat_lt p 256 && nat_lt a 65536 && nat_lt b 65536) && (p == 6 || not e) && numbers_fit p a b
 
+-- ICMP
 at_icmp : (a b : ℕ) (e : Bool) → parts 1 a b (flag_number e) ≡ flag_number (fits 1 a b e)
 at_icmp a b false = grind (arith, nat_tests)
 at_icmp a b true = grind (arith, nat_tests)
 
+-- TCP
 at_tcp : (a b : ℕ) (e : Bool) → parts 6 a b (flag_number e) ≡ flag_number (fits 6 a b e)
 at_tcp a b false = grind (arith, nat_tests)
 at_tcp a b true = grind (arith, nat_tests)
 
+-- UDP
 at_udp : (a b : ℕ) (e : Bool) → parts 17 a b (flag_number e) ≡ flag_number (fits 17 a b e)
 at_udp a b false = grind (arith, nat_tests)
 at_udp a b true = grind (arith, nat_tests)
 
+-- protocol 0
 at_first : (a b : ℕ) (e : Bool) → parts 0 a b (flag_number e) ≡ flag_number (fits 0 a b e)
 at_first a b false = grind (arith, nat_tests)
 at_first a b true = grind (arith, nat_tests)
 
+-- from 2 to 5
 at_low : (p a b : ℕ) (e : Bool) → 2 ≤ p → p ≤ 5 → parts p a b (flag_number e) ≡ flag_number (fits p a b e)
 at_low p a b false l h = grind (arith, nat_tests)
 at_low p a b true l h = grind (arith, nat_tests)
 
+-- from 7 to 16
 at_middle : (p a b : ℕ) (e : Bool) → 7 ≤ p → p ≤ 16 → parts p a b (flag_number e) ≡ flag_number (fits p a b e)
 at_middle p a b false l h = grind (arith, nat_tests)
 at_middle p a b true l h = grind (arith, nat_tests)
 
+-- from 18 to 255
 at_high : (p a b : ℕ) (e : Bool) → 18 ≤ p → p ≤ 255 → parts p a b (flag_number e) ≡ flag_number (fits p a b e)
 at_high p a b false l h = grind (arith, nat_tests)
 at_high p a b true l h = grind (arith, nat_tests)
 
+-- no protocol is past 255
 beyond : (p a b : ℕ) (e : Bool) → 256 ≤ p → parts p a b (flag_number e) ≡ flag_number (fits p a b e)
 beyond p a b false h = grind (arith, nat_tests)
 beyond p a b true h = grind (arith, nat_tests)
@@ -96,6 +104,7 @@ parts_fit p a b e =
 any_of : (p : Ternary) (x : ℕ) → p.value ≡ 0 → p.wild ≡ 0xffff_ffff → ternary_has p x ≡ nat_lt x (2 ^ 32)
 any_of p x value wild = (λ i. pattern_has (value i) (wild i) x) ∙ widest_has x
 
+-- a span by its two numbers
 numbers_of : (s : Span) (low high x : ℕ) → s.low ≡ low → s.high ≡ high → span_has s x ≡ (nat_le low x && nat_le x high)
 numbers_of s low high x l h = λ i. nat_le (l i) x && nat_le x (h i)
 
@@ -135,6 +144,7 @@ anywhere_has b h first last most flags e =
     regroup : {s t d u p q a c b f e g m n : Bool} → s ≡ t → d ≡ u → p ≡ q → a ≡ c → b ≡ f → e ≡ g → m ≡ n → (s && d && p && a && b && e && m) ≡ (((t && u) && n) && (q && c && f && g))
     regroup {t = t} {u = u} {q = q} {c = c} {f = f} {g = g} {n = n} hs hd hp ha hb he hm = (λ i. hs i && hd i && hp i && ha i && hb i && he i && hm i) ∙ group (t && u) q c f g n
 
+-- validity with the widths of addresses and code point apart
 valid_is : (h : Header) → is_valid_header h ≡ (others_fit h && fits h.proto h.a h.b h.est)
 unfolding is_valid_header
 valid_is h = regroup (nat_lt h.src (2 ^ 32) && nat_lt h.dst (2 ^ 32)) (nat_lt h.dscp 64) (nat_lt h.proto 256) (nat_lt h.a 65536) (nat_lt h.b 65536) (h.proto == 6 || not h.est) (numbers_fit h.proto h.a h.b)
@@ -166,5 +176,6 @@ valid_once b0 b1 b2 b3 b4 b5 b6 e0 e1 e2 e3 e4 e5 e6 h =
 pub valid_together : (bs : List Block) → ((h : Header) → count_having bs h ≡ flag_number (is_valid_header h)) → (h : Header) → any_has bs h ≡ is_valid_header h
 valid_together bs once h = any_from_count bs h (is_valid_header h) (once h)
 
+-- and no two of them have one in common
 pub valid_disjoint : (bs : List Block) → ((h : Header) → count_having bs h ≡ flag_number (is_valid_header h)) → AreDisjoint bs
 valid_disjoint bs once = disjoint_from_count bs (λ h. omega (arith, once h, flag_small (is_valid_header h)))

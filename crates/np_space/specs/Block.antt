@@ -26,14 +26,17 @@ block_has b h = fields_have b.src b.dst b.proto b.a b.b b.est b.dscp h
 
 -- ---- the widest block
 
+-- the protocols of a block end at 255
 pub protocols_below : (span_from 0 255).high ≤ 255
 unfolding span_from
 protocols_below = omega arith
 
+-- its flags at 1
 pub flags_below : (span_from 0 1).high ≤ 1
 unfolding span_from
 flags_below = omega arith
 
+-- its code points at 63
 pub code_points_below : (span_from 0 63).high ≤ 63
 unfolding span_from
 code_points_below = omega arith

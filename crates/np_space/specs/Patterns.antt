@@ -16,15 +16,19 @@ unfoldable pub any_address : Ternary
 any_address =
     record { value = 0; wild = 4294967295; cleared = and_zero_l 4294967295; value_width = ltb-true 0 (2 ^ 32) refl; wild_width = ltb-true 4294967295 (2 ^ 32) refl }
 
+-- the wild bits are 32
 pub wild_fits : (wild : ℕ) → wild % 2 ^ 32 ≤ 4294967295
 wild_fits wild = omega arith
 
+-- no bit is both set and wild
 pub wild_cleared : (value wild : ℕ) → bit_and (bit_and (value % 2 ^ 32) (4294967295 - wild % 2 ^ 32)) (wild % 2 ^ 32) ≡ 0
 wild_cleared value wild = and-not_self (value % 2 ^ 32) 4294967295 (wild % 2 ^ 32) (wild % 2 ^ 32) refl (wild_fits wild) refl
 
+-- so are the fixed ones
 pub rest_fits : (wild : ℕ) → 4294967295 - wild % 2 ^ 32 < 2 ^ 32
 rest_fits wild = omega arith
 
+-- a word has 32 bits
 pub word_fits : (n : ℕ) → n % 2 ^ 32 < 2 ^ 32
 word_fits n = omega arith
 
@@ -53,10 +57,12 @@ prefix_value address length = address % 2 ^ 32 / 2 ^ (32 - length) * 2 ^ (32 - l
 abbrev pub prefix_wild : ℕ → ℕ
 prefix_wild length = 2 ^ (32 - length) - 1
 
+-- no bit is both set and wild
 pub prefix_cleared : (address length : ℕ) → bit_and (prefix_value address length) (prefix_wild length) ≡ 0
 prefix_cleared address length =
     and_mask (prefix_value address length) (32 - length) ∙ mul-mod_left (address % 2 ^ 32 / 2 ^ (32 - length)) (2 ^ (32 - length))
 
+-- the value has 32 bits
 pub prefix_value_below : (address length : ℕ) → prefix_value address length < 2 ^ 32
 prefix_value_below address length =
     let small : address % 2 ^ 32 < 2 ^ 32 = omega arith in
@@ -64,6 +70,7 @@ prefix_value_below address length =
     let under : address % 2 ^ 32 / 2 ^ (32 - length) * 2 ^ (32 - length) ≤ address % 2 ^ 32 = omega (arith) in
     omega arith
 
+-- so have the wild bits
 pub prefix_wild_below : (length : ℕ) → prefix_wild length < 2 ^ 32
 prefix_wild_below length =
     let few : 32 - length ≤ 32 = omega arith in

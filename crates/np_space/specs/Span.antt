@@ -12,9 +12,11 @@ pub record IsPartOf (part whole : Span) : Type 0 where
   pub low : whole.low ≤ part.low
   pub high : part.high ≤ whole.high
 
+-- the least number is at most the greatest
 pub span_ordered : (low high : ℕ) → min low high ≤ high
 span_ordered low high = omega arith
 
+-- the greatest is a port
 pub span_below : (high : ℕ) → min high 65535 < 2 ^ 16
 span_below high = omega arith
 

@@ -1,0 +1,205 @@
+//! Entries, lists, and the names of their lines.
+
+use np_acl::{
+    Entry, List, PortNames, Ports, dscp_of, icmp_of, port_of, precedence_of, protocol_of,
+};
+use np_space::{Header, Span, Ternary};
+use std::alloc::{AllocError, Global};
+use std::test::Fail;
+
+/// Ports, code points, and what a list says to TCP segments with them.
+const ANSWERS: [(u16, u8, bool); 10] = [
+    (24, 0, true),
+    (25, 0, false),
+    (80, 0, false),
+    (90, 0, false),
+    (91, 0, true),
+    (443, 0, false),
+    (1023, 63, true),
+    (1024, 0, false),
+    (1024, 46, true),
+    (1024, 47, false),
+];
+
+/// Words, and the protocols that they give: the first and the last.
+const PROTOCOLS: [(&str, Option<(u16, u16)>); 14] = [
+    ("ip", Some((0, 255))),
+    ("icmp", Some((1, 1))),
+    ("tcp", Some((6, 6))),
+    ("udp", Some((17, 17))),
+    ("ahp", Some((51, 51))),
+    ("pim", Some((103, 103))),
+    ("0", Some((0, 0))),
+    ("255", Some((255, 255))),
+    ("0000255", Some((255, 255))),
+    ("256", None),
+    ("", None),
+    ("TCP", None),
+    ("ip4", None),
+    ("domain", None),
+];
+
+/// Words, and the ports that they give by the names of TCP and by those of UDP.
+const PORTS: [(&str, Option<u16>, Option<u16>); 15] = [
+    ("ftp-data", Some(20), None),
+    ("www", Some(80), None),
+    ("uucp", Some(540), None),
+    ("domain", Some(53), Some(53)),
+    ("sunrpc", Some(111), Some(111)),
+    ("cmd", Some(514), None),
+    ("syslog", None, Some(514)),
+    ("bootps", None, Some(67)),
+    ("non500-isakmp", None, Some(4500)),
+    ("0", Some(0), Some(0)),
+    ("0065535", Some(65535), Some(65535)),
+    ("65536", None, None),
+    ("-1", None, None),
+    ("ftp-dat", None, None),
+    ("tcp", None, None),
+];
+
+/// Words, and the ICMP types and codes that they give.
+const MESSAGES: [(&str, Option<(u8, Option<u8>)>); 11] = [
+    ("echo-reply", Some((0, None))),
+    ("unreachable", Some((3, None))),
+    ("net-unreachable", Some((3, Some(0)))),
+    ("administratively-prohibited", Some((3, Some(13)))),
+    ("echo", Some((8, None))),
+    ("time-exceeded", Some((11, None))),
+    ("ttl-exceeded", Some((11, Some(0)))),
+    ("parameter-problem", Some((12, None))),
+    ("8", None),
+    ("echo-", None),
+    ("", None),
+];
+
+/// Words, and the code points and the precedences that they give.
+const CODE_POINTS: [(&str, Option<u8>, Option<u8>); 20] = [
+    ("default", Some(0), None),
+    ("ef", Some(46), None),
+    ("cs1", Some(8), None),
+    ("cs7", Some(56), None),
+    ("af11", Some(10), None),
+    ("af23", Some(22), None),
+    ("af43", Some(38), None),
+    ("cs0", None, None),
+    ("cs8", None, None),
+    ("af44", None, None),
+    ("EF", None, None),
+    ("routine", None, Some(0)),
+    ("flash", None, Some(3)),
+    ("flash-override", None, Some(4)),
+    ("network", None, Some(7)),
+    ("0", Some(0), Some(0)),
+    ("007", Some(7), Some(7)),
+    ("8", Some(8), None),
+    ("63", Some(63), None),
+    ("64", None, None),
+];
+
+/// The numbers from the lesser of two to the greater.
+fn span(x: u16, y: u16) -> Span {
+    Span {
+        low: x.min(y),
+        high: x.max(y),
+    }
+}
+
+fn ports(alloc: Global, spans: &[(u16, u16)]) -> Result<Ports, AllocError> {
+    let mut ports = Ports::new(alloc);
+    for (x, y) in spans {
+        ports.push(span(*x, *y))?;
+    }
+    Ok(ports)
+}
+
+/// An entry for one protocol between any two addresses, to some of the destination ports.
+fn entry(alloc: Global, permit: bool, proto: u8, to: &[(u16, u16)]) -> Result<Entry, AllocError> {
+    let mut entry = Entry::any(alloc, permit)?;
+    entry.proto = span(u16::from(proto), u16::from(proto));
+    entry.b = ports(alloc, to)?;
+    Ok(entry)
+}
+
+fn tcp_to(port: u16, dscp: u8) -> Header {
+    Header {
+        src: 0x0a00_0001,
+        dst: 0x0a00_0002,
+        proto: 6,
+        a: 1024,
+        b: port,
+        est: false,
+        dscp,
+    }
+}
+
+#[test]
+fn the_first_match_decides(rt: HostRuntime) -> Result<(), Fail> {
+    let alloc = rt.alloc();
+    let mut list = List::new(alloc);
+    assert_eq!(rt; list.permits(&tcp_to(25, 0)), true, "a list without entries");
+    list.push(entry(alloc, false, 6, &[(25, 25), (80, 90), (443, 443)])?)?;
+    list.push(entry(alloc, true, 6, &[(0, 1023)])?)?;
+    let mut urgent = Entry::any(alloc, true)?;
+    urgent.dscp = span(46, 46);
+    list.push(urgent)?;
+    let copy = list.copy(alloc)?;
+    for (port, dscp, want) in ANSWERS {
+        let header = tcp_to(port, dscp);
+        assert_eq!(rt; list.permits(&header), want, "port {port}, code point {dscp}");
+        assert_eq!(rt; copy.permits(&header), want, "the copy at port {port}");
+    }
+    assert_eq!(rt; copy.as_slice().len(), 3);
+    assert_eq!(rt; list.into_vec().len(), 3);
+    let alone = List::from_vec(vec![in alloc; entry(alloc, true, 17, &[(53, 53)])?]?);
+    assert_eq!(rt; alone.permits(&tcp_to(53, 0)), false);
+    Ok(())
+}
+
+#[test]
+fn an_entry_without_words_tests_nothing(rt: HostRuntime) -> Result<(), Fail> {
+    let alloc = rt.alloc();
+    let any = Entry::any(alloc, false)?.copy(alloc)?;
+    assert_eq!(rt; any.permit, false);
+    assert_eq!(rt; any.proto, span(0, 255));
+    assert_eq!(rt; any.src, Ternary::of(0, u32::MAX));
+    assert_eq!(rt; any.dst, Ternary::of(0, u32::MAX));
+    assert_eq!(rt; any.est, span(0, 1));
+    assert_eq!(rt; any.dscp, span(0, 63));
+    for (port, dscp, _) in ANSWERS {
+        assert_eq!(rt; any.matches(&tcp_to(port, dscp)), true);
+    }
+    assert_eq!(rt; any.a.has(0) && any.a.has(65535), true);
+    for (spans, number, has) in [
+        (ports(alloc, &[(3, 5), (9, 9), (7, 7)])?, 7, true),
+        (ports(alloc, &[(3, 5), (9, 9)])?, 6, false),
+        (Ports::of(alloc, span(4, 6))?.copy(alloc)?, 6, true),
+        (Ports::any(alloc)?, 65535, true),
+    ] {
+        assert_eq!(rt; spans.has(number), has);
+        match spans.into_vec() {
+            Ok(spans) => assert_eq!(rt; spans.as_slice().iter().any(|part| part.span().has(number)), has),
+            Err(_) => panic!(rt; "no memory for spans"),
+        }
+    }
+    Ok(())
+}
+
+#[test]
+fn words_of_the_tables(rt: HostRuntime) {
+    for (word, want) in PROTOCOLS {
+        let want = want.map(|ends| span(ends.0, ends.1));
+        assert_eq!(rt; protocol_of(word.as_bytes()), want, "{word}");
+    }
+    for (word, tcp, udp) in PORTS {
+        assert_eq!(rt; port_of(word.as_bytes(), PortNames::Tcp), tcp, "{word} of TCP");
+        assert_eq!(rt; port_of(word.as_bytes(), PortNames::Udp), udp, "{word} of UDP");
+    }
+    for (word, want) in MESSAGES {
+        assert_eq!(rt; icmp_of(word.as_bytes()), want, "{word}");
+    }
+    for (word, dscp, precedence) in CODE_POINTS {
+        assert_eq!(rt; dscp_of(word.as_bytes()), dscp, "{word} as a code point");
+        assert_eq!(rt; precedence_of(word.as_bytes()), precedence, "{word} as a precedence");
+    }
+}

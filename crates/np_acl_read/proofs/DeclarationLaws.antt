@@ -13,12 +13,13 @@ use Rattle.std.proofs.lemmas.Map.Steps.{list_any_congr}
 use Rattle.std.proofs.lemmas.Slice.Eq.{bytes_eq-Decides}
 use Rattle.indexmap.specs.IndexMap.{insert_entry as put}
 use Rattle.np_acl.specs.declared.entries.Entry.{Entry}
+use Rattle.np_acl.specs.declared.kinds.Way.{Way}
 use Rattle.np_acl_read.specs.declared.declared.Section.TheVariants as sections
 use Rattle.np_acl_read.specs.declared.statement.NumberedEntry.{NumberedEntry}
 use Rattle.np_acl_read.specs.declared.statement.Statement.{Statement}
 use Rattle.np_acl_read.specs.declared.statement.Statement.TheVariants as statement
 use Rattle.np_acl_read.specs.Adding.{added, added_if, entries_named, with_entry_at, with_list}
-use Rattle.np_acl_read.specs.Declaring.{declared_by, section_after, section_of, list_in, with_name, names_of, entry_in, entry_of_list, with_entry, in_order, entries_of, lists_of, group_in, with_group, groups_of}
+use Rattle.np_acl_read.specs.Declaring.{is_inward, declared_by, section_after, section_of, list_in, with_name, names_of, entry_in, entry_of_list, with_entry, in_order, entries_of, lists_of, group_in, with_group, groups_of}
 use Rattle.np_acl_read.specs.Reading.{and_one}
 
 -- ---- one more item
@@ -95,7 +96,7 @@ other_entry name entry entries away rest = rw (away, rest) refl
 no_entries_in : (name : List ℕ) (statements : List Statement) → list_any (bytes_eq name) (filter_map list_in statements) ≡ false → filter_map (entry_of_list name) (filter_map entry_in statements) ≡ []
 no_entries_in name [] away = refl
 no_entries_in name (statement.Interface interface ∷ statements) away = no_entries_in name statements away
-no_entries_in name (statement.Section list extended ∷ statements) away =
+no_entries_in name (statement.Section list kind ∷ statements) away =
     no_entries_in name statements (or_parts (bytes_eq name list) (list_any (bytes_eq name) (filter_map list_in statements)) away).1
 no_entries_in name (statement.Remark list ∷ statements) away =
     no_entries_in name statements (or_parts (bytes_eq name list) (list_any (bytes_eq name) (filter_map list_in statements)) away).1
@@ -105,7 +106,7 @@ no_entries_in name (statement.ListEntry entry ∷ statements) away =
 no_entries_in name (statement.SectionEntry entry ∷ statements) away =
     let parts = or_parts (bytes_eq name entry.list) (list_any (bytes_eq name) (filter_map list_in statements)) away in
     other_entry name entry (filter_map entry_in statements) parts.0 (no_entries_in name statements parts.1)
-no_entries_in name (statement.Group interface inward list ∷ statements) away = no_entries_in name statements away
+no_entries_in name (statement.Group interface way list ∷ statements) away = no_entries_in name statements away
 no_entries_in name (statement.Other ∷ statements) away = no_entries_in name statements away
 
 no_entries : (name : List ℕ) (statements : List Statement) → list_any (bytes_eq name) (names_of statements) ≡ false → entries_of statements name ≡ []
@@ -204,10 +205,10 @@ lists_added before s entry list is =
 section_more : (before : List Statement) (s : Statement) → section_of (before ++ s ∷ []) ≡ section_after (section_of before) s
 section_more before s = fold_more section_after sections.Closed before s
 
-groups_more : (before : List Statement) (interface : List ℕ) (inward : Bool) (list : List ℕ) → groups_of (before ++ statement.Group interface inward list ∷ []) ≡ with_group (groups_of before) ((interface, inward), list)
-groups_more before interface inward list =
-    rw (one_more group_in before (statement.Group interface inward list) ((interface, inward), list) refl)
-    (fold_more with_group [] (filter_map group_in before) ((interface, inward), list))
+groups_more : (before : List Statement) (interface : List ℕ) (way : Way) (list : List ℕ) → groups_of (before ++ statement.Group interface way list ∷ []) ≡ with_group (groups_of before) ((interface, is_inward way), list)
+groups_more before interface way list =
+    rw (one_more group_in before (statement.Group interface way list) ((interface, is_inward way), list) refl)
+    (fold_more with_group [] (filter_map group_in before) ((interface, is_inward way), list))
 
 declared_one_more : (before : List Statement) (s : Statement) → declared_by (before ++ s ∷ []) ≡ added (declared_by before) s
 unfolding declared_by
@@ -218,12 +219,12 @@ declared_one_more before (statement.Interface name) =
       none_more group_in before (statement.Interface name) refl,
       none_more entry_in before (statement.Interface name) refl,
     ) refl
-declared_one_more before (statement.Section list extended) =
+declared_one_more before (statement.Section list kind) =
     rw (
-      section_more before (statement.Section list extended),
-      lists_opened before (statement.Section list extended) list refl refl,
-      none_more group_in before (statement.Section list extended) refl,
-      none_more entry_in before (statement.Section list extended) refl,
+      section_more before (statement.Section list kind),
+      lists_opened before (statement.Section list kind) list refl refl,
+      none_more group_in before (statement.Section list kind) refl,
+      none_more entry_in before (statement.Section list kind) refl,
     ) refl
 declared_one_more before (statement.Remark list) =
     rw (
@@ -248,12 +249,12 @@ declared_one_more before (statement.SectionEntry entry) =
       one_more entry_in before (statement.SectionEntry entry) entry refl,
       length_more (filter_map entry_in before) entry,
     ) refl
-declared_one_more before (statement.Group interface inward list) =
+declared_one_more before (statement.Group interface way list) =
     rw (
-      section_more before (statement.Group interface inward list),
-      lists_kept before (statement.Group interface inward list) refl refl,
-      groups_more before interface inward list,
-      none_more entry_in before (statement.Group interface inward list) refl,
+      section_more before (statement.Group interface way list),
+      lists_kept before (statement.Group interface way list) refl refl,
+      groups_more before interface way list,
+      none_more entry_in before (statement.Group interface way list) refl,
     ) refl
 declared_one_more before statement.Other =
     rw (

@@ -1,5 +1,6 @@
 -- Ports, one behind the other.
-use Rattle.std.proofs.Common.{◌≡◌, ℕ, Bool, List, [], ◌∷◌, ◌++◌, Ok, refl}
+use Rattle.std.proofs.Common.{◌≡◌, ℕ, List, [], ◌∷◌, ◌++◌, Ok, refl}
+use Rattle.np_acl.specs.declared.kinds.PortNames.{PortNames}
 use Rattle.np_acl_read.specs.Entries.{more_ports, port_in, ports_in}
 use Rattle.np_acl_read.specs.Why.{◌>>=◌, Read}
 
@@ -8,7 +9,7 @@ abbrev pub behind : List ℕ → Read (List ℕ) → Read (List ℕ)
 behind front read = read >>= λ more. Ok (front ++ more.0, more.1)
 
 -- the first port, in front of the others
-pub ports_start : (tcp : Bool) (words : List (List ℕ)) (first : ℕ) (left : List (List ℕ)) → port_in tcp words ≡ Ok (first, left)
-    → behind (first ∷ []) (more_ports tcp 1 left) ≡ ports_in tcp words
+pub ports_start : (names : PortNames) (words : List (List ℕ)) (first : ℕ) (left : List (List ℕ)) → port_in names words ≡ Ok (first, left)
+    → behind (first ∷ []) (more_ports names 1 left) ≡ ports_in names words
 unfolding ports_in
-ports_start tcp words first left read = rw read refl
+ports_start names words first left read = rw read refl

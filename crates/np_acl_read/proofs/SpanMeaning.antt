@@ -4,40 +4,23 @@ use Rattle.std.specs.Prelude.{◌&&◌, ◌||◌, not, ◌==◌, if◌then◌els
 use Rattle.std.specs.List.{AllByRecursion, list_any}
 use Rattle.std.proofs.lemmas.Bool.{ltb-true, ltb-false, leb-true, and_parts, eq-eqb, eqb-true, or_left, or_right}
 use Rattle.std.proofs.lemmas.Bool.Decides.{nat_tests}
-use Rattle.std.specs.Int.{bit_at}
-use Rattle.std.proofs.lemmas.Nat.Bits.{bit_at_cat_low}
 use Rattle.std.proofs.lemmas.List.Folds.{list_any-append}
-use Rattle.np_space.specs.Bit.{has_bit}
-use Rattle.np_space.specs.Flag.{same_flag}
-use Rattle.np_space.specs.Span.{span_has}
-use Rattle.np_space.specs.Ternary.{pattern_has, ternary_has}
+use Rattle.np_space.specs.Span.{span_from, span_has}
 use Rattle.np_space.specs.declared.spans.Span.{Span}
-use Rattle.np_space.proofs.BitLemmas.{bit-not, bit-zero, same_from_has_bit}
-use Rattle.np_space.proofs.FlagLemmas.{and_true, or_false, same_answers, same_flag-equal, same_flag-refl}
-use Rattle.np_space.proofs.PatternLemmas.{of_same, pattern_at, pattern_from, pattern_same, pattern_width}
+use Rattle.np_space.proofs.FlagLemmas.{and_true, or_false}
+use Rattle.np_space.proofs.MadeLemmas.{span_from-has}
 use Rattle.np_acl.specs.Entries.{ports_have}
-use Rattle.np_acl.specs.Tables.{span_from}
-use Rattle.np_acl.proofs.SpanLaws.{low-span_from, high-span_from}
-use Rattle.np_acl_read.specs.Spans.{only, any_number, below, above, around, span_without, spans_without, all_but, any_address, pattern, host}
+use Rattle.np_acl.specs.Spans.{any_number}
+use Rattle.np_acl_read.specs.Spans.{only, below, above, around, span_without, spans_without, all_but, precedence_span}
 
 -- ---- ports
-
--- a span has the numbers from its first to its last
-span_between : (low high x : ℕ) → low ≤ high → high ≤ 65535 → span_has (span_from low high) x ≡ (nat_le low x && nat_le x high)
-span_between low high x ordered small = (λ j. nat_le (first j) x && nat_le x (last j))
-  where
-    first : (span_from low high).low ≡ low
-    first = sym (low-span_from low high small) ∙ omega arith
-
-    last : (span_from low high).high ≡ high
-    last = sym (high-span_from low high small)
 
 -- spans of one or none
 one_span : (s : Span) (x : ℕ) (has : Bool) → span_has s x ≡ has → ports_have (s ∷ []) x ≡ has
 one_span s x has e = or_false (span_has s x) ∙ e
 
 pub ports_between : (low high x : ℕ) → low ≤ high → high ≤ 65535 → ports_have (span_from low high ∷ []) x ≡ (nat_le low x && nat_le x high)
-ports_between low high x ordered small = one_span (span_from low high) x _ (span_between low high x ordered small)
+ports_between low high x ordered small = one_span (span_from low high) x _ (span_from-has low high x ordered small)
 
 within : (x : ℕ) → x ≤ 65535 → (nat_le 0 x && nat_le x 65535) ≡ true
 within x small = grind (arith, nat_tests)
@@ -90,7 +73,7 @@ one_number n x = grind (arith, nat_tests)
 
 pub ports_each : (ns : List ℕ) (x : ℕ) → AllByRecursion (λ n. n ≤ 65535) ns → ports_have (map only ns) x ≡ list_any (nat_eq x) ns
 ports_each [] x small = refl
-ports_each (n ∷ ns) x small = (λ j. (span_between n n x (omega arith) small.0 ∙ one_number n x) j || ports_each ns x small.1 j)
+ports_each (n ∷ ns) x small = (λ j. (span_from-has n n x (omega arith) small.0 ∙ one_number n x) j || ports_each ns x small.1 j)
 
 -- ---- ports left out
 
@@ -155,42 +138,11 @@ each_without (n ∷ ns) spans x =
 pub ports_all_but : (ns : List ℕ) (x : ℕ) → x ≤ 65535 → ports_have (all_but ns) x ≡ not (list_any (nat_eq x) ns)
 ports_all_but ns x small = each_without ns (any_number ∷ []) x ∙ ap (λ b. b && not (list_any (nat_eq x) ns)) (ports_any x small)
 
--- ---- addresses
+-- ---- precedences
 
--- the bits of a word are those of the number that it is cut from
-word_bit : (n i : ℕ) → i < 32 → has_bit (n % 2 ^ 32) i ≡ has_bit n i
-unfolding has_bit
-word_bit n i l = ap (λ b. b == 1) (sym (bit_at_cat_low (n / 2 ^ 32) 32 (n % 2 ^ 32) i l) ∙ ap (λ m. bit_at m i) (whole n))
-  where
-    whole : (n : ℕ) → n / 2 ^ 32 * 2 ^ 32 + n % 2 ^ 32 ≡ n
-    whole n = omega arith
+eighths : (precedence dscp : ℕ) → (nat_le (8 * precedence) dscp && nat_le dscp (8 * precedence + 7)) ≡ nat_eq (dscp / 8) precedence
+eighths precedence dscp = grind (arith, nat_tests)
 
-word_width : (n : ℕ) → n % 2 ^ 32 < 2 ^ 32
-word_width n = omega arith
-
-pub pattern_meant : (value wild x : ℕ) → ternary_has (pattern value wild) x ≡ pattern_has value wild x
-unfolding pattern
-pattern_meant value wild x =
-    of_same (value % 2 ^ 32) (wild % 2 ^ 32) x (word_width wild)
-    ∙ pattern_same (value % 2 ^ 32) (wild % 2 ^ 32) value wild x (λ i l. (λ j. word_bit wild i l j || same_flag (has_bit x i) (word_bit value i l j)))
-
--- without wild bits a value is the only number
-value_alone : (value x : ℕ) → value < 2 ^ 32 → pattern_has value 0 x ≡ nat_eq x value
-value_alone value x v =
-    same_answers (pattern_has value 0 x) (nat_eq x value)
-    (λ has. eq-eqb x value (same_from_has_bit x value (pattern_width value 0 x has) v (λ i l.
-    same_flag-equal (has_bit x i) (has_bit value i) (sym (ap (λ b. b || same_flag (has_bit x i) (has_bit value i)) (bit-zero i)) ∙ pattern_at value 0 x i has l))))
-    (λ same. let e = eqb-true x value same in pattern_from value 0 x (omega arith) (λ i l.
-    or_right (has_bit 0 i) (same_flag (has_bit x i) (has_bit value i)) (ap (λ y. same_flag (has_bit y i) (has_bit value i)) e ∙ same_flag-refl (has_bit value i))))
-
-pub host_meant : (address x : ℕ) → address < 2 ^ 32 → ternary_has (host address) x ≡ nat_eq x address
-host_meant address x a = pattern_meant address 0 x ∙ value_alone address x a
-
--- each bit of the widest wildcard is wild
-all_wild : (i : ℕ) → i < 32 → has_bit 4294967295 i ≡ true
-all_wild i l = bit-not 0 i (omega arith) l ∙ ap not (bit-zero i)
-
-pub any_address_meant : (x : ℕ) → x < 2 ^ 32 → ternary_has any_address x ≡ true
-unfolding any_address
-any_address_meant x l =
-    pattern_from 0 4294967295 x l (λ i k. or_left (has_bit 4294967295 i) (same_flag (has_bit x i) (has_bit 0 i)) (all_wild i k))
+pub precedence_meant : (precedence dscp : ℕ) → precedence ≤ 7 → span_has (precedence_span precedence) dscp ≡ nat_eq (dscp / 8) precedence
+precedence_meant precedence dscp small =
+    span_from-has (8 * precedence) (8 * precedence + 7) dscp (omega arith) (omega arith) ∙ eighths precedence dscp

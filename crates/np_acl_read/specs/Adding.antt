@@ -9,7 +9,7 @@ use Rattle.np_acl_read.specs.declared.declared.Declared.{Declared}
 use Rattle.np_acl_read.specs.declared.statement.NumberedEntry.{NumberedEntry}
 use Rattle.np_acl_read.specs.declared.statement.Statement.{Statement}
 use Rattle.np_acl_read.specs.declared.statement.Statement.TheVariants as statement
-use Rattle.np_acl_read.specs.Declaring.{section_after, with_entry, with_group}
+use Rattle.np_acl_read.specs.Declaring.{is_inward, section_after, with_entry, with_group}
 
 -- lists by their names, with the entries of each
 abbrev pub Numbered : Type 0
@@ -35,11 +35,11 @@ with_numbered declared entry =
 -- the lists, groups and entries with what a statement declares of them
 abbrev pub told : Declared → Statement → Declared
 told declared (statement.Interface name) = declared
-told declared (statement.Section list extended) = record declared { lists = with_list declared.lists list }
+told declared (statement.Section list kind) = record declared { lists = with_list declared.lists list }
 told declared (statement.Remark list) = record declared { lists = with_list declared.lists list }
 told declared (statement.ListEntry entry) = with_numbered declared entry
 told declared (statement.SectionEntry entry) = with_numbered declared entry
-told declared (statement.Group interface inward list) = record declared { groups = with_group declared.groups ((interface, inward), list) }
+told declared (statement.Group interface way list) = record declared { groups = with_group declared.groups ((interface, is_inward way), list) }
 told declared statement.Other = declared
 
 -- what is declared with one more statement
@@ -58,19 +58,19 @@ entry_limit = 20000
 -- a statement that may stand behind what is declared: there is room for its entry
 abbrev pub Fits : Declared → Statement → Type 0
 Fits declared (statement.Interface name) = Unit {0}
-Fits declared (statement.Section list extended) = Unit {0}
+Fits declared (statement.Section list kind) = Unit {0}
 Fits declared (statement.Remark list) = Unit {0}
 Fits declared (statement.ListEntry entry) = declared.entries < entry_limit
 Fits declared (statement.SectionEntry entry) = declared.entries < entry_limit
-Fits declared (statement.Group interface inward list) = Unit {0}
+Fits declared (statement.Group interface way list) = Unit {0}
 Fits declared statement.Other = Unit {0}
 
 -- a statement that needs no room
 abbrev pub NeedsNoRoom : Statement → Type 0
 NeedsNoRoom (statement.Interface name) = Unit {0}
-NeedsNoRoom (statement.Section list extended) = Unit {0}
+NeedsNoRoom (statement.Section list kind) = Unit {0}
 NeedsNoRoom (statement.Remark list) = Unit {0}
 NeedsNoRoom (statement.ListEntry entry) = ⊥
 NeedsNoRoom (statement.SectionEntry entry) = ⊥
-NeedsNoRoom (statement.Group interface inward list) = Unit {0}
+NeedsNoRoom (statement.Group interface way list) = Unit {0}
 NeedsNoRoom statement.Other = Unit {0}

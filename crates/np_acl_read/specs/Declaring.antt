@@ -1,5 +1,5 @@
 -- What the statements of a configuration declare.
-use Rattle.std.specs.Prelude.{ℕ, Bool, ◌&&◌, List, [], ◌∷◌, ◌++◌, length, map, fold, Option, Some, None, if◌then◌else◌}
+use Rattle.std.specs.Prelude.{ℕ, Bool, true, false, ◌&&◌, List, [], ◌∷◌, ◌++◌, length, map, fold, Option, Some, None, if◌then◌else◌}
 use Rattle.std.specs.List.{filter_map, list_any}
 use Rattle.std.specs.BTreeMap.{insert_entry}
 use Rattle.indexmap.specs.IndexMap.{insert_entry as put}
@@ -9,8 +9,8 @@ use Rattle.std.proofs.Math.Bool.{beq}
 use Rattle.np_acl.specs.declared.entries.Entry.{Entry}
 use Rattle.np_acl_read.specs.declared.config.Config.{Config}
 use Rattle.np_acl_read.specs.declared.config.Group.{Group}
-use Rattle.np_acl_read.specs.declared.config.Way.{Way}
-use Rattle.np_acl_read.specs.declared.config.Way.TheVariants as way
+use Rattle.np_acl.specs.declared.kinds.Way.{Way}
+use Rattle.np_acl.specs.declared.kinds.Way.TheVariants.{Inward, Outward}
 use Rattle.np_acl_read.specs.declared.declared.Declared.{Declared}
 use Rattle.np_acl_read.specs.declared.declared.Section.{Section}
 use Rattle.np_acl_read.specs.declared.declared.Section.TheVariants as sections
@@ -24,16 +24,16 @@ use Rattle.np_acl_read.specs.declared.statement.NumberedEntry.{NumberedEntry}
 abbrev pub closed_list : Section → Section
 closed_list sections.Closed = sections.Closed
 closed_list (sections.Interface name) = sections.Interface name
-closed_list (sections.List name extended) = sections.Closed
+closed_list (sections.List name kind) = sections.Closed
 
 -- the section that is open after a statement
 abbrev pub section_after : Section → Statement → Section
 section_after before (statement.Interface name) = sections.Interface name
-section_after before (statement.Section list extended) = sections.List list extended
+section_after before (statement.Section list kind) = sections.List list kind
 section_after before (statement.Remark list) = sections.Closed
 section_after before (statement.ListEntry entry) = sections.Closed
 section_after before (statement.SectionEntry entry) = before
-section_after before (statement.Group interface inward list) = before
+section_after before (statement.Group interface way list) = before
 section_after before statement.Other = closed_list before
 
 -- the section that statements leave open
@@ -45,11 +45,11 @@ section_of statements = fold section_after sections.Closed statements
 -- the list that a statement names, which is there from then on
 abbrev pub list_in : Statement → Option (List ℕ)
 list_in (statement.Interface name) = None
-list_in (statement.Section list extended) = Some list
+list_in (statement.Section list kind) = Some list
 list_in (statement.Remark list) = Some list
 list_in (statement.ListEntry entry) = Some entry.list
 list_in (statement.SectionEntry entry) = Some entry.list
-list_in (statement.Group interface inward list) = None
+list_in (statement.Group interface way list) = None
 list_in statement.Other = None
 
 -- names with one more, behind the others, where it isn't there
@@ -63,11 +63,11 @@ names_of statements = fold with_name [] (filter_map list_in statements)
 -- the entry that a statement declares
 abbrev pub entry_in : Statement → Option NumberedEntry
 entry_in (statement.Interface name) = None
-entry_in (statement.Section list extended) = None
+entry_in (statement.Section list kind) = None
 entry_in (statement.Remark list) = None
 entry_in (statement.ListEntry entry) = Some entry
 entry_in (statement.SectionEntry entry) = Some entry
-entry_in (statement.Group interface inward list) = None
+entry_in (statement.Group interface way list) = None
 entry_in statement.Other = None
 
 -- an entry with its number, where it is one of this list
@@ -92,14 +92,19 @@ lists_of statements = map (λ name. (name, entries_of statements name)) (names_o
 
 -- ---- groups
 
+-- whether a way is the one in
+abbrev pub is_inward : Way → Bool
+is_inward Inward = true
+is_inward Outward = false
+
 -- the list that a statement applies, at an interface, inward or outward
 abbrev pub group_in : Statement → Option ((List ℕ × Bool) × List ℕ)
 group_in (statement.Interface name) = None
-group_in (statement.Section list extended) = None
+group_in (statement.Section list kind) = None
 group_in (statement.Remark list) = None
 group_in (statement.ListEntry entry) = None
 group_in (statement.SectionEntry entry) = None
-group_in (statement.Group interface inward list) = Some ((interface, inward), list)
+group_in (statement.Group interface way list) = Some ((interface, is_inward way), list)
 group_in statement.Other = None
 
 -- the same interface and way
@@ -127,7 +132,7 @@ declared_by statements = record {
 
 -- a way by whether it is the one in
 abbrev pub way_of : Bool → Way
-way_of inward = if inward then way.Inward else way.Outward
+way_of inward = if inward then Inward else Outward
 
 -- lists of entries without their numbers
 abbrev pub plain_lists : List (List ℕ × List (ℕ × Entry)) → List (List ℕ × List Entry)

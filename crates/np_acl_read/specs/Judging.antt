@@ -7,6 +7,8 @@ use Rattle.std.specs.Str.{bytes_eq}
 use Rattle.np_text.specs.Numbers.{is_numeral, number_of}
 use Rattle.np_text.specs.Words.{words_of}
 use Rattle.np_acl.specs.declared.entries.Entry.{Entry}
+use Rattle.np_acl.specs.declared.kinds.ListKind.{ListKind}
+use Rattle.np_acl.specs.declared.kinds.ListKind.TheVariants.{Extended, Standard}
 use Rattle.std.specs.Map.{lookup}
 use Rattle.np_acl_read.specs.declared.declared.Declared.{Declared}
 use Rattle.np_acl_read.specs.declared.declared.Section.{Section}
@@ -51,15 +53,15 @@ abbrev pub counted : ℕ → NumberedEntry → Judged NumberedEntry
 counted entries entry = if nat_lt entries entry_limit then Ok entry else Err why.TooManyEntries
 
 -- an entry without a number, by the words behind `permit` or `deny`; its number is judged behind them
-abbrev pub unnumbered : Declared → List ℕ → Bool → Bool → List (List ℕ) → Judged NumberedEntry
-unnumbered declared list extended permit words =
-    entry_of extended permit words >>= λ entry. next_number (numbers_in declared.lists list) >>= λ number.
+abbrev pub unnumbered : Declared → List ℕ → ListKind → Bool → List (List ℕ) → Judged NumberedEntry
+unnumbered declared list kind permit words =
+    entry_of kind permit words >>= λ entry. next_number (numbers_in declared.lists list) >>= λ number.
     counted declared.entries (record { list = list; number = number; entry = entry })
 
 -- the same with a number, which is judged before them
-abbrev pub numbered : Declared → List ℕ → Bool → List ℕ → Bool → List (List ℕ) → Judged NumberedEntry
-numbered declared list extended word permit words =
-    sequence_number (numbers_in declared.lists list) word >>= λ number. entry_of extended permit words >>= λ entry.
+abbrev pub numbered : Declared → List ℕ → ListKind → List ℕ → Bool → List (List ℕ) → Judged NumberedEntry
+numbered declared list kind word permit words =
+    sequence_number (numbers_in declared.lists list) word >>= λ number. entry_of kind permit words >>= λ entry.
     counted declared.entries (record { list = list; number = number; entry = entry })
 
 -- the fault of a word where `permit` or `deny` has to stand
@@ -67,26 +69,26 @@ abbrev pub no_action : List ℕ → ConfigWhy
 no_action word = if bytes_eq word (codes "dynamic") || bytes_eq word (codes "evaluate") then why.Unsupported else why.BadEntry
 
 -- an entry of a list, with the number of a word or without one, by the words behind `permit` or `deny`
-abbrev pub list_entry : Declared → List ℕ → Bool → Option (List ℕ) → Bool → List (List ℕ) → Judged NumberedEntry
-list_entry declared list extended None permit words = unnumbered declared list extended permit words
-list_entry declared list extended (Some word) permit words = numbered declared list extended word permit words
+abbrev pub list_entry : Declared → List ℕ → ListKind → Option (List ℕ) → Bool → List (List ℕ) → Judged NumberedEntry
+list_entry declared list kind None permit words = unnumbered declared list kind permit words
+list_entry declared list kind (Some word) permit words = numbered declared list kind word permit words
 
 -- the same by the word in the place of `permit` or `deny`
-abbrev pub acted : Declared → List ℕ → Bool → Option (List ℕ) → List ℕ → Option Bool → List (List ℕ) → Judged (Option NumberedEntry)
-acted declared list extended number word None words = Err (no_action word)
-acted declared list extended number word (Some permit) words = list_entry declared list extended number permit words >>= λ entry. Ok (Some entry)
+abbrev pub acted : Declared → List ℕ → ListKind → Option (List ℕ) → List ℕ → Option Bool → List (List ℕ) → Judged (Option NumberedEntry)
+acted declared list kind number word None words = Err (no_action word)
+acted declared list kind number word (Some permit) words = list_entry declared list kind number permit words >>= λ entry. Ok (Some entry)
 
 -- an entry of a list, or nothing for `remark`, whose words aren't judged
-unfoldable pub entry_or_remark : Declared → List ℕ → Bool → Option (List ℕ) → List (List ℕ) → Judged (Option NumberedEntry)
-entry_or_remark declared list extended number [] = Err why.BadEntry
-entry_or_remark declared list extended number (word ∷ words) =
-    if bytes_eq word (codes "remark") then Ok None else acted declared list extended number word (action_of word) words
+unfoldable pub entry_or_remark : Declared → List ℕ → ListKind → Option (List ℕ) → List (List ℕ) → Judged (Option NumberedEntry)
+entry_or_remark declared list kind number [] = Err why.BadEntry
+entry_or_remark declared list kind number (word ∷ words) =
+    if bytes_eq word (codes "remark") then Ok None else acted declared list kind number word (action_of word) words
 
 -- ---- `access-list N ..`
 
--- the number of an access list, and whether it is extended
-abbrev pub list_number : List ℕ → Option (ℕ × Bool)
-list_number word = option_and_then (λ n. option_map (λ extended. (n, extended)) (kind_of_number n)) (number_of word 2699)
+-- the number of an access list, and its kind
+abbrev pub list_number : List ℕ → Option (ℕ × ListKind)
+list_number word = option_and_then (λ n. option_map (λ kind. (n, kind)) (kind_of_number n)) (number_of word 2699)
 
 -- an entry of a numbered list, or a remark
 abbrev pub list_statement : List ℕ → Option NumberedEntry → Statement
@@ -94,7 +96,7 @@ list_statement list None = statement.Remark list
 list_statement list (Some entry) = statement.ListEntry entry
 
 -- the line of the list of this number
-abbrev pub line_of_list : Declared → Option (ℕ × Bool) → List (List ℕ) → Judged Statement
+abbrev pub line_of_list : Declared → Option (ℕ × ListKind) → List (List ℕ) → Judged Statement
 line_of_list declared None words = Ok statement.Other
 line_of_list declared (Some list) words =
     entry_or_remark declared (decimal list.0) list.1 None words >>= λ entry. Ok (list_statement (decimal list.0) entry)
@@ -107,17 +109,17 @@ list_line declared (word ∷ words) = line_of_list declared (list_number word) w
 -- ---- `ip ..`
 
 -- the section of a list, by the words behind its kind
-unfoldable pub open_list : Bool → List (List ℕ) → Judged Statement
-open_list extended [] = Err why.BadEntry
-open_list extended (name ∷ []) = Ok (statement.Section name extended)
-open_list extended (name ∷ more ∷ words) = Err why.BadEntry
+unfoldable pub open_list : ListKind → List (List ℕ) → Judged Statement
+open_list kind [] = Err why.BadEntry
+open_list kind (name ∷ []) = Ok (statement.Section name kind)
+open_list kind (name ∷ more ∷ words) = Err why.BadEntry
 
 -- `ip access-list ..`, by its third word and the others
 unfoldable pub access_list : List (List ℕ) → Judged Statement
 access_list [] = Ok statement.Other
 access_list (word ∷ words) =
-    if bytes_eq word (codes "extended") then open_list true words else
-    (if bytes_eq word (codes "standard") then open_list false words else
+    if bytes_eq word (codes "extended") then open_list Extended words else
+    (if bytes_eq word (codes "standard") then open_list Standard words else
     Ok statement.Other)
 
 -- nothing stands behind a group's way
@@ -129,13 +131,13 @@ group_ended group (word ∷ words) = Err why.Unsupported
 unfoldable pub group_at : List ℕ → List (List ℕ) → Judged Statement
 group_at interface [] = Err why.BadEntry
 group_at interface (list ∷ []) = Err why.BadEntry
-group_at interface (list ∷ word ∷ words) = way_of word >>= λ inward. group_ended (statement.Group interface inward list) words
+group_at interface (list ∷ word ∷ words) = way_of word >>= λ way. group_ended (statement.Group interface way list) words
 
 -- the same in any section
 abbrev pub group_line : Section → List (List ℕ) → Judged Statement
 group_line sections.Closed words = Err why.BadEntry
 group_line (sections.Interface name) words = group_at name words
-group_line (sections.List name extended) words = Err why.BadEntry
+group_line (sections.List name kind) words = Err why.BadEntry
 
 -- a line whose first word is `ip`
 unfoldable pub ip_line : Declared → List (List ℕ) → Judged Statement
@@ -166,7 +168,7 @@ is_list_negated (word ∷ words) = is_some (list_number word)
 abbrev pub in_list : Section → Bool
 in_list sections.Closed = false
 in_list (sections.Interface name) = false
-in_list (sections.List name extended) = true
+in_list (sections.List name kind) = true
 
 -- this word behind `no` takes away a line of the list whose section is open
 abbrev pub is_line_negated : Section → List ℕ → Bool
@@ -199,22 +201,22 @@ begins_list_line word =
     is_numeral word || is_some (action_of word) || bytes_eq word (codes "remark") || bytes_eq word (codes "dynamic") || bytes_eq word (codes "evaluate")
 
 -- the entry of a line of this list: with a number in front or without one; nothing for a remark
-unfoldable pub section_entry : Declared → List ℕ → Bool → List (List ℕ) → Judged (Option NumberedEntry)
-section_entry declared list extended [] = entry_or_remark declared list extended None []
-section_entry declared list extended (word ∷ words) =
-    if is_numeral word then entry_or_remark declared list extended (Some word) words
-    else entry_or_remark declared list extended None (word ∷ words)
+unfoldable pub section_entry : Declared → List ℕ → ListKind → List (List ℕ) → Judged (Option NumberedEntry)
+section_entry declared list kind [] = entry_or_remark declared list kind None []
+section_entry declared list kind (word ∷ words) =
+    if is_numeral word then entry_or_remark declared list kind (Some word) words
+    else entry_or_remark declared list kind None (word ∷ words)
 
 -- a line of the list whose section is open, by all of its words
-abbrev pub section_line : Declared → List ℕ → Bool → List (List ℕ) → Judged (Option Statement)
-section_line declared list extended words = section_entry declared list extended words >>= λ entry. Ok (section_statement entry)
+abbrev pub section_line : Declared → List ℕ → ListKind → List (List ℕ) → Judged (Option Statement)
+section_line declared list kind words = section_entry declared list kind words >>= λ entry. Ok (section_statement entry)
 
 -- a line that begins with no keyword of its own, by its first word and all of its words
 abbrev pub other_line : Declared → Section → List ℕ → List (List ℕ) → Judged (Option Statement)
 other_line declared sections.Closed word words = Ok (Some statement.Other)
 other_line declared (sections.Interface name) word words = Ok (Some statement.Other)
-other_line declared (sections.List name extended) word words =
-    if begins_list_line word then section_line declared name extended words else Ok (Some statement.Other)
+other_line declared (sections.List name kind) word words =
+    if begins_list_line word then section_line declared name kind words else Ok (Some statement.Other)
 
 -- ---- the whole
 

@@ -5,13 +5,17 @@ use Rattle.std.specs.Str.{bytes_eq}
 use Rattle.np_text.specs.Numbers.{is_numeral}
 use Rattle.np_acl_read.specs.declared.fault.ConfigWhy.{ConfigWhy}
 use Rattle.np_acl_read.specs.declared.fault.ConfigWhy.TheVariants as why
+use Rattle.np_acl.specs.declared.kinds.ListKind.{ListKind}
+use Rattle.np_acl.specs.declared.kinds.ListKind.TheVariants.{Extended, Standard}
+use Rattle.np_acl.specs.declared.kinds.Way.{Way}
+use Rattle.np_acl.specs.declared.kinds.Way.TheVariants.{Inward, Outward}
 use Rattle.np_acl_read.specs.Why.{Judged, Read}
 
 -- what the lists of a configuration could say that this program has no answer to
 unfoldable pub unsupported_words : List (List ℕ)
 unsupported_words =
-    codes "ack" ∷ codes "addrgroup" ∷ codes "dscp" ∷ codes "dynamic" ∷ codes "evaluate" ∷ codes "fin" ∷ codes "fragments"
-    ∷ codes "match-all" ∷ codes "match-any" ∷ codes "object-group" ∷ codes "option" ∷ codes "precedence" ∷ codes "psh"
+    codes "ack" ∷ codes "addrgroup" ∷ codes "dynamic" ∷ codes "evaluate" ∷ codes "fin" ∷ codes "fragments"
+    ∷ codes "match-all" ∷ codes "match-any" ∷ codes "object-group" ∷ codes "option" ∷ codes "psh"
     ∷ codes "reflect" ∷ codes "rst" ∷ codes "syn" ∷ codes "time-range" ∷ codes "tos" ∷ codes "ttl" ∷ codes "urg" ∷ []
 
 -- the word is one of these
@@ -31,11 +35,11 @@ word_in (word ∷ words) = if is_unsupported word then Err why.Unsupported else 
 abbrev pub too_great_or : List ℕ → ConfigWhy → ConfigWhy
 too_great_or word fault = if is_numeral word then why.BadNumber else fault
 
--- whether a way is the one in: the ways are `in` and `out`
-abbrev pub way_of : List ℕ → Judged Bool
+-- the way of `in` or `out`
+abbrev pub way_of : List ℕ → Judged Way
 way_of word =
-    if bytes_eq word (codes "in") then Ok true else
-    (if bytes_eq word (codes "out") then Ok false else Err why.BadEntry)
+    if bytes_eq word (codes "in") then Ok Inward else
+    (if bytes_eq word (codes "out") then Ok Outward else Err why.BadEntry)
 
 -- `permit` or `deny`: whether an entry permits
 abbrev pub action_of : List ℕ → Option Bool
@@ -47,8 +51,8 @@ action_of word =
 abbrev pub is_between : ℕ → ℕ → ℕ → Bool
 is_between low high n = nat_le low n && nat_le n high
 
--- whether the list of a number is extended: 100 to 199 and 2000 to 2699 are, 1 to 99 and 1300 to 1999 are standard, and other numbers are no list's
-abbrev pub kind_of_number : ℕ → Option Bool
+-- the kind of the list of a number: 100 to 199 and 2000 to 2699 are extended, 1 to 99 and 1300 to 1999 are standard, and other numbers are no list's
+abbrev pub kind_of_number : ℕ → Option ListKind
 kind_of_number n =
-    if is_between 100 199 n || is_between 2000 2699 n then Some true else
-    (if is_between 1 99 n || is_between 1300 1999 n then Some false else None)
+    if is_between 100 199 n || is_between 2000 2699 n then Some Extended else
+    (if is_between 1 99 n || is_between 1300 1999 n then Some Standard else None)

@@ -6,7 +6,6 @@ ghost use Rattle.np_acl_read.specs.Entries as judging;
 
 use crate::fault::ConfigWhy;
 use crate::line_error::LineError;
-use crate::spans::{any_address, pattern};
 use crate::words::next_word;
 use np_space::Ternary;
 use np_text::address;
@@ -30,7 +29,7 @@ fn wildcard_after<'a>(
 {
     let (word, words) = next_word(words)?;
     let wild = address_in(word)?;
-    Ok((pattern(address, wild), words))
+    Ok((Ternary::of(address, wild), words))
 }
 
 /// The one address behind `host`.
@@ -39,7 +38,7 @@ fn host_in<'a>(words: &'a [&'a [u8]]) -> Result<(Ternary, &'a [&'a [u8]]), LineE
 {
     let (word, words) = next_word(words)?;
     let address = address_in(word)?;
-    Ok((pattern(address, 0), words))
+    Ok((Ternary::host(address), words))
 }
 
 /// The addresses that begin with this word.
@@ -50,7 +49,7 @@ fn addresses_from<'a>(
     ensures { Reads result (judging.addresses_from word.now (texts words.now)) }
 {
     if word == b"any".as_slice() {
-        return Ok((any_address(), words));
+        return Ok((Ternary::any(), words));
     }
     if word == b"host".as_slice() {
         return host_in(words);
@@ -74,11 +73,11 @@ fn host_or_wildcard<'a>(first: u32, words: &'a [&'a [u8]]) -> (Ternary, &'a [&'a
     ensures { (result.0, texts result.1.now) ≡ judging.host_or_wildcard first (texts words.now) }
 {
     let [word, rest @ ..] = words else {
-        return (pattern(first, 0), words);
+        return (Ternary::host(first), words);
     };
     match address(word) {
-        Some(wild) => (pattern(first, wild), rest),
-        None => (pattern(first, 0), words),
+        Some(wild) => (Ternary::of(first, wild), rest),
+        None => (Ternary::host(first), words),
     }
 }
 
@@ -90,7 +89,7 @@ fn source_from<'a>(
     ensures { Reads result (judging.source_from word.now (texts words.now)) }
 {
     if word == b"any".as_slice() {
-        return Ok((any_address(), words));
+        return Ok((Ternary::any(), words));
     }
     if word == b"host".as_slice() {
         return host_in(words);

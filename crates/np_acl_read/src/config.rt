@@ -6,20 +6,11 @@ ghost use Rattle.std.specs.Option.{option_copied};
 ghost use Rattle.std.specs.Str.{bytes_eq};
 
 use indexmap::IndexMap;
-use np_acl::List;
+use np_acl::{List, Way};
 use np_text::Name;
 use sqlite_items::Items;
 use std::alloc::{AllocError, Global};
 use std::marker::Model;
-
-/// A way through an interface.
-#[derive(Clone, Copy, Debug, PartialEq, Eq)]
-pub enum Way {
-    /// Into the device.
-    Inward,
-    /// Out of the device.
-    Outward,
-}
 
 /// An access list that is applied at an interface in one way.
 #[derive(Drop)]

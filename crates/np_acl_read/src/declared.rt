@@ -7,6 +7,7 @@ ghost use Rattle.np_acl_read.specs.Declaring.{closed_list, declared_by};
 use crate::groups::Groups;
 use crate::numbered::NumberedLists;
 use crate::statement::{NumberedEntry, Statement};
+use np_acl::ListKind;
 use np_text::Name;
 use std::alloc::{AllocError, Global};
 
@@ -15,7 +16,7 @@ use std::alloc::{AllocError, Global};
 pub enum Section {
     Closed,
     Interface(Name),
-    List { name: Name, extended: bool },
+    List { name: Name, kind: ListKind },
 }
 
 /// What lines declare.
@@ -69,12 +70,9 @@ impl Declared {
     {
         match statement {
             Statement::Interface(name) => self.section = Section::Interface(name),
-            Statement::Section { list, extended } => {
+            Statement::Section { list, kind } => {
                 self.lists.open(alloc, &list)?;
-                self.section = Section::List {
-                    name: list,
-                    extended,
-                };
+                self.section = Section::List { name: list, kind };
             }
             Statement::Remark(list) => {
                 self.lists.open(alloc, &list)?;
@@ -87,9 +85,9 @@ impl Declared {
             Statement::SectionEntry(entry) => self.add_entry(alloc, entry)?,
             Statement::Group {
                 interface,
-                inward,
+                way,
                 list,
-            } => self.groups.apply(interface, inward, list)?,
+            } => self.groups.apply(interface, way, list)?,
             Statement::Other => self.close_list(),
         }
         Ok(())

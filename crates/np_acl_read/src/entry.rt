@@ -8,11 +8,11 @@ use crate::addresses::{addresses, source};
 use crate::fault::ConfigWhy;
 use crate::line_error::LineError;
 use crate::messages::message_tests;
-use crate::options::options;
+use crate::options::{OptionKind, options};
 use crate::ports::port_tests;
-use crate::spans::{any_address, any_flag, any_numbers, any_protocol, flag};
+use crate::spans::flag;
 use crate::words::{next_word, too_great_or};
-use np_acl::{Entry, Ports, protocol_of};
+use np_acl::{Entry, ListKind, PortNames, Ports, protocol_of};
 use np_space::Span;
 use std::alloc::Global;
 
@@ -33,17 +33,28 @@ fn is_protocol(number: u16, proto: Span) -> bool
     proto.low == number && proto.high == number
 }
 
-/// Whether TCP's ports may be named, or UDP's. `None` for protocols without ports.
-fn port_names(proto: Span) -> Option<bool>
+/// Whose ports may be named. `None` for protocols without ports.
+fn port_names(proto: Span) -> Option<PortNames>
     ensures { result ≡ judging.port_names proto }
 {
     if is_protocol(6, proto) {
-        return Some(true);
+        return Some(PortNames::Tcp);
     }
     if is_protocol(17, proto) {
-        return Some(false);
+        return Some(PortNames::Udp);
     }
     None
+}
+
+/// The options that an entry may have.
+fn options_for(proto: Span) -> OptionKind
+    ensures { result ≡ judging.options_for proto }
+{
+    if is_protocol(6, proto) {
+        OptionKind::Tcp
+    } else {
+        OptionKind::Extended
+    }
 }
 
 /// The ports, or the types and codes, behind the destination of an entry, where these ports stand
@@ -74,16 +85,18 @@ fn extended_entry(alloc: Global, permit: bool, words: &[&[u8]]) -> Result<Entry,
     let (sources, words) = port_tests(alloc, port_names(proto), words)?;
     let (dst, words) = addresses(words)?;
     let ((a, b), words) = numbers_after(alloc, proto, sources, words)?;
-    let established = options(is_protocol(6, proto), words)?;
-    Ok(Entry {
-        permit,
-        proto,
-        src,
-        dst,
-        a,
-        b,
-        est: flag(established),
-    })
+    let asked = options(options_for(proto), words)?;
+    let mut entry = Entry::any(alloc, permit)?;
+    entry.proto = proto;
+    entry.src = src;
+    entry.dst = dst;
+    entry.a = a;
+    entry.b = b;
+    entry.est = flag(asked.established);
+    if let Some(dscp) = asked.dscp {
+        entry.dscp = dscp;
+    }
+    Ok(entry)
 }
 
 /// A standard entry: its source, and options.
@@ -92,30 +105,23 @@ fn standard_entry(alloc: Global, permit: bool, words: &[&[u8]]) -> Result<Entry,
     ensures { Gives result (judging.standard_entry permit (texts words.now)) }
 {
     let (src, words) = source(words)?;
-    options(false, words)?;
-    Ok(Entry {
-        permit,
-        proto: any_protocol(),
-        src,
-        dst: any_address(),
-        a: any_numbers(alloc)?,
-        b: any_numbers(alloc)?,
-        est: any_flag(),
-    })
+    options(OptionKind::Standard, words)?;
+    let mut entry = Entry::any(alloc, permit)?;
+    entry.src = src;
+    Ok(entry)
 }
 
 /// The entry of a list by the words behind `permit` or `deny`, or the first fault in their order.
 pub fn entry(
     alloc: Global,
-    extended: bool,
+    kind: ListKind,
     permit: bool,
     words: &[&[u8]],
 ) -> Result<Entry, LineError>
-    ensures { Gives result (judging.entry_of extended permit (texts words.now)) }
+    ensures { Gives result (judging.entry_of kind permit (texts words.now)) }
 {
-    if extended {
-        extended_entry(alloc, permit, words)
-    } else {
-        standard_entry(alloc, permit, words)
+    match kind {
+        ListKind::Extended => extended_entry(alloc, permit, words),
+        ListKind::Standard => standard_entry(alloc, permit, words),
     }
 }

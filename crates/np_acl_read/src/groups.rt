@@ -3,8 +3,9 @@
 ghost use Rattle.std.specs.Prelude.{◌≡◌, [], IfOk, OnOk};
 ghost use Rattle.np_acl_read.specs.Declaring as declaring;
 
-use crate::config::{Group, Way};
+use crate::config::Group;
 use indexmap::IndexMap;
+use np_acl::Way;
 use np_text::Name;
 use sqlite_items::Items;
 use std::alloc::{AllocError, Global};
@@ -24,6 +25,15 @@ impl Model for Groups {
     ghost view = { λ groups. groups.groups.entries };
 }
 
+fn is_inward(way: Way) -> bool
+    ensures { result ≡ declaring.is_inward way }
+{
+    match way {
+        Way::Inward => true,
+        Way::Outward => false,
+    }
+}
+
 fn way(inward: bool) -> Way
     ensures { result ≡ declaring.way_of inward }
 {
@@ -41,10 +51,10 @@ impl Groups {
     }
 
     /// Applies a list, in the place of one that is applied there before.
-    pub fn apply(&mut self, interface: Name, inward: bool, list: Name) -> Result<(), AllocError>
-        ensures { OnOk result (self.new ≡ declaring.with_group self.old ((interface, inward), list)) }
+    pub fn apply(&mut self, interface: Name, way: Way, list: Name) -> Result<(), AllocError>
+        ensures { OnOk result (self.new ≡ declaring.with_group self.old ((interface, declaring.is_inward way), list)) }
     {
-        self.groups.insert((interface, inward), list)?;
+        self.groups.insert((interface, is_inward(way)), list)?;
         Ok(())
     }
 

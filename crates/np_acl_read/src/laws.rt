@@ -1,12 +1,12 @@
 //! Laws of the definitions that the contracts of this crate cite. A function here does nothing:
 //! its contract is the law.
 
-ghost use Rattle.std.specs.Prelude.{◌≡◌, ◌^◌, ◌<◌, ◌≤◌, ◌∷◌, [], ◌&&◌, ℕ, List, map, nat_eq, nat_le, nat_lt, not, true};
+ghost use Rattle.std.specs.Prelude.{◌≡◌, ◌/◌, ◌≤◌, ◌∷◌, [], ◌&&◌, ℕ, List, map, nat_eq, nat_le, nat_lt, not, true};
 ghost use Rattle.std.specs.List.{AllByRecursion, list_any};
-ghost use Rattle.np_space.specs.Ternary.{pattern_has, ternary_has};
+ghost use Rattle.np_space.specs.Span.{span_from, span_has};
 ghost use Rattle.np_acl.specs.Entries.{ports_have};
-ghost use Rattle.np_acl.specs.Tables.{span_from};
-ghost use Rattle.np_acl_read.specs.Spans.{above, all_but, any_address, any_number, below, host, only, pattern};
+ghost use Rattle.np_acl.specs.Spans.{any_number};
+ghost use Rattle.np_acl_read.specs.Spans.{above, all_but, below, only, precedence_span};
 
 /// The ports that the words of an entry test are exactly those meant.
 #[tactic(auto, using(crate::proofs::SpanMeaning::ports_each, crate::proofs::SpanMeaning::ports_all_but, crate::proofs::SpanMeaning::ports_below, crate::proofs::SpanMeaning::ports_above, crate::proofs::SpanMeaning::ports_between, crate::proofs::SpanMeaning::ports_any))]
@@ -19,11 +19,8 @@ pub fn ports_are_those_meant()
     ensures any { (x : ℕ) → x ≤ 65535 → ports_have (any_number ∷ []) x ≡ true }
 {}
 
-/// The addresses that a pattern has are exactly those that agree with the value wherever the
-/// wildcard has no bit.
-#[tactic(auto, using(crate::proofs::SpanMeaning::pattern_meant, crate::proofs::SpanMeaning::host_meant, crate::proofs::SpanMeaning::any_address_meant))]
-pub fn patterns_are_those_meant()
-    ensures pattern { (value wild x : ℕ) → ternary_has (pattern value wild) x ≡ pattern_has value wild x }
-    ensures host { (address x : ℕ) → address < 2 ^ 32 → ternary_has (host address) x ≡ nat_eq x address }
-    ensures any { (x : ℕ) → x < 2 ^ 32 → ternary_has any_address x ≡ true }
+/// The code points of a precedence are exactly those whose upper three bits it is.
+#[tactic(auto, using(crate::proofs::SpanMeaning::precedence_meant))]
+pub fn precedences_are_upper_bits()
+    ensures { (precedence dscp : ℕ) → precedence ≤ 7 → span_has (precedence_span precedence) dscp ≡ nat_eq (dscp / 8) precedence }
 {}

@@ -20,10 +20,7 @@ mod spans;
 mod statement;
 mod words;
 
-pub use config::{Config, Group, Lists, Way, empty_config};
+pub use config::{Config, Group, Lists, empty_config};
 pub use fault::{ConfigError, ConfigFault, ConfigWhy};
-pub use laws::{patterns_are_those_meant, ports_are_those_meant};
+pub use laws::{ports_are_those_meant, precedences_are_upper_bits};
 pub use reading::read_config;
-
-#[cfg(test)]
-mod tests;

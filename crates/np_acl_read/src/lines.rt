@@ -13,17 +13,18 @@ use crate::fault::{ConfigError, ConfigFault, ConfigWhy};
 use crate::line_error::LineError;
 use crate::list_entries::entry_or_remark;
 use crate::statement::{NumberedEntry, Statement};
-use crate::words::{action, is_inward, is_numeral, kind_of_number};
+use crate::words::{action, is_numeral, kind_of_number, way};
+use np_acl::ListKind;
 use np_text::{Name, number, put_number, word_list};
 use std::alloc::{AllocError, Global};
 
-/// The number of an access list, and whether it is extended.
-fn list_number(word: &[u8]) -> Option<(u64, bool)>
+/// The number of an access list, and its kind.
+fn list_number(word: &[u8]) -> Option<(u64, ListKind)>
     ensures { result ≡ judging.list_number word.now }
 {
     let value = number(word, 2699)?;
-    let extended = kind_of_number(value)?;
-    Some((value, extended))
+    let kind = kind_of_number(value)?;
+    Some((value, kind))
 }
 
 /// A number in its shortest form, as a name.
@@ -44,11 +45,11 @@ fn list_line(alloc: Global, declared: &Declared, words: &[&[u8]]) -> Result<Stat
     let [word, words @ ..] = words else {
         return Ok(Statement::Other);
     };
-    let Some((value, extended)) = list_number(word) else {
+    let Some((value, kind)) = list_number(word) else {
         return Ok(Statement::Other);
     };
     let list = decimal_name(alloc, value)?;
-    match entry_or_remark(alloc, declared, &list, extended, None, words)? {
+    match entry_or_remark(alloc, declared, &list, kind, None, words)? {
         Some(entry) => Ok(Statement::ListEntry(entry)),
         None => Ok(Statement::Remark(list)),
     }
@@ -56,14 +57,14 @@ fn list_line(alloc: Global, declared: &Declared, words: &[&[u8]]) -> Result<Stat
 
 /// `ip access-list ..`, by the words behind the list's kind.
 #[tactic(auto, unfolding(crate::specs::Judging::open_list))]
-fn open_list(alloc: Global, extended: bool, words: &[&[u8]]) -> Result<Statement, LineError>
-    ensures says { Gives result (judging.open_list extended (texts words.now)) }
+fn open_list(alloc: Global, kind: ListKind, words: &[&[u8]]) -> Result<Statement, LineError>
+    ensures says { Gives result (judging.open_list kind (texts words.now)) }
     ensures free { IfOk result NeedsNoRoom }
 {
     match words {
         [name] => Ok(Statement::Section {
             list: Name::of(alloc, name)?,
-            extended,
+            kind,
         }),
         _ => Err(LineError::Faulty(ConfigWhy::BadEntry)),
     }
@@ -79,10 +80,10 @@ fn access_list(alloc: Global, words: &[&[u8]]) -> Result<Statement, LineError>
         return Ok(Statement::Other);
     };
     if *word == b"extended".as_slice() {
-        return open_list(alloc, true, words);
+        return open_list(alloc, ListKind::Extended, words);
     }
     if *word == b"standard".as_slice() {
-        return open_list(alloc, false, words);
+        return open_list(alloc, ListKind::Standard, words);
     }
     Ok(Statement::Other)
 }
@@ -96,13 +97,13 @@ fn group_at(alloc: Global, interface: &Name, words: &[&[u8]]) -> Result<Statemen
     let [list, word, more @ ..] = words else {
         return Err(LineError::Faulty(ConfigWhy::BadEntry));
     };
-    let inward = is_inward(word)?;
+    let way = way(word)?;
     if !more.is_empty() {
         return Err(LineError::Faulty(ConfigWhy::Unsupported));
     }
     Ok(Statement::Group {
         interface: interface.copy(alloc)?,
-        inward,
+        way,
         list: Name::of(alloc, list)?,
     })
 }
@@ -234,17 +235,17 @@ fn section_entry(
     alloc: Global,
     declared: &Declared,
     list: &Name,
-    extended: bool,
+    kind: ListKind,
     words: &[&[u8]],
 ) -> Result<Option<NumberedEntry>, LineError>
-    ensures says { Gives result (judging.section_entry declared.now list.now extended (texts words.now)) }
+    ensures says { Gives result (judging.section_entry declared.now list.now kind (texts words.now)) }
     ensures room { IfOk result (λ entry. IfSome entry (λ _. declared.now.entries < entry_limit)) }
 {
     match words {
         [number, words @ ..] if is_numeral(number) => {
-            entry_or_remark(alloc, declared, list, extended, Some(number), words)
+            entry_or_remark(alloc, declared, list, kind, Some(number), words)
         }
-        _ => entry_or_remark(alloc, declared, list, extended, None, words),
+        _ => entry_or_remark(alloc, declared, list, kind, None, words),
     }
 }
 
@@ -269,8 +270,8 @@ fn other_line(
     ensures fits { IfOk result (λ said. IfSome said (λ s. Fits declared.now s)) }
 {
     match &declared.section {
-        Section::List { name, extended } if begins_list_line(word) => {
-            let entry = section_entry(alloc, declared, name, *extended, words)?;
+        Section::List { name, kind } if begins_list_line(word) => {
+            let entry = section_entry(alloc, declared, name, *kind, words)?;
             Ok(section_statement(entry))
         }
         _ => Ok(Some(Statement::Other)),

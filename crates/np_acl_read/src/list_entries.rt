@@ -14,6 +14,7 @@ use crate::line_error::LineError;
 use crate::numbered::NumberedLists;
 use crate::statement::NumberedEntry;
 use crate::words::action;
+use np_acl::ListKind;
 use np_text::{Name, number};
 use std::alloc::Global;
 
@@ -89,14 +90,14 @@ fn unnumbered(
     alloc: Global,
     declared: &Declared,
     list: &Name,
-    extended: bool,
+    kind: ListKind,
     permit: bool,
     words: &[&[u8]],
 ) -> Result<NumberedEntry, LineError>
-    ensures says { Gives result (judging.unnumbered declared.now list.now extended permit (texts words.now)) }
+    ensures says { Gives result (judging.unnumbered declared.now list.now kind permit (texts words.now)) }
     ensures room { OnOk result (declared.now.entries < entry_limit) }
 {
-    let entry = entry(alloc, extended, permit, words)?;
+    let entry = entry(alloc, kind, permit, words)?;
     let number = next_number(&declared.lists, list)?;
     let list = list.copy(alloc)?;
     counted(
@@ -114,16 +115,16 @@ fn numbered(
     alloc: Global,
     declared: &Declared,
     list: &Name,
-    extended: bool,
+    kind: ListKind,
     word: &[u8],
     permit: bool,
     words: &[&[u8]],
 ) -> Result<NumberedEntry, LineError>
-    ensures says { Gives result (judging.numbered declared.now list.now extended word.now permit (texts words.now)) }
+    ensures says { Gives result (judging.numbered declared.now list.now kind word.now permit (texts words.now)) }
     ensures room { OnOk result (declared.now.entries < entry_limit) }
 {
     let number = sequence_number(&declared.lists, list, word)?;
-    let entry = entry(alloc, extended, permit, words)?;
+    let entry = entry(alloc, kind, permit, words)?;
     let list = list.copy(alloc)?;
     counted(
         declared.entries,
@@ -140,17 +141,17 @@ fn list_entry(
     alloc: Global,
     declared: &Declared,
     list: &Name,
-    extended: bool,
+    kind: ListKind,
     number: Option<&[u8]>,
     permit: bool,
     words: &[&[u8]],
 ) -> Result<NumberedEntry, LineError>
-    ensures says { Gives result (judging.list_entry declared.now list.now extended (option_copied number.entry) permit (texts words.now)) }
+    ensures says { Gives result (judging.list_entry declared.now list.now kind (option_copied number.entry) permit (texts words.now)) }
     ensures room { OnOk result (declared.now.entries < entry_limit) }
 {
     match number {
-        Some(word) => numbered(alloc, declared, list, extended, word, permit, words),
-        None => unnumbered(alloc, declared, list, extended, permit, words),
+        Some(word) => numbered(alloc, declared, list, kind, word, permit, words),
+        None => unnumbered(alloc, declared, list, kind, permit, words),
     }
 }
 
@@ -171,11 +172,11 @@ pub fn entry_or_remark(
     alloc: Global,
     declared: &Declared,
     list: &Name,
-    extended: bool,
+    kind: ListKind,
     number: Option<&[u8]>,
     words: &[&[u8]],
 ) -> Result<Option<NumberedEntry>, LineError>
-    ensures says { Gives result (judging.entry_or_remark declared.now list.now extended (option_copied number.entry) (texts words.now)) }
+    ensures says { Gives result (judging.entry_or_remark declared.now list.now kind (option_copied number.entry) (texts words.now)) }
     ensures room { IfOk result (λ entry. IfSome entry (λ _. declared.now.entries < entry_limit)) }
 {
     let [word, words @ ..] = words else {
@@ -186,7 +187,7 @@ pub fn entry_or_remark(
     }
     match action(word) {
         Some(permit) => {
-            let entry = list_entry(alloc, declared, list, extended, number, permit, words)?;
+            let entry = list_entry(alloc, declared, list, kind, number, permit, words)?;
             Ok(Some(entry))
         }
         None => Err(LineError::Faulty(no_action(word))),

@@ -7,8 +7,8 @@ ghost use Rattle.np_acl_read.specs.Entries as judging;
 
 use crate::fault::ConfigWhy;
 use crate::line_error::LineError;
-use crate::options::is_log;
-use crate::spans::{any_numbers, one_number};
+use crate::options::is_message_option;
+use crate::spans::one_number;
 use crate::words::{is_numeral, is_unsupported};
 use np_acl::{Ports, icmp_of};
 use np_text::number;
@@ -30,10 +30,10 @@ fn code_in<'a>(alloc: Global, words: &'a [&'a [u8]]) -> Result<(Ports, &'a [&'a 
     ensures { Reads result (judging.code_in (texts words.now)) }
 {
     let [word, rest @ ..] = words else {
-        return Ok((any_numbers(alloc)?, words));
+        return Ok((Ports::any(alloc)?, words));
     };
     if !is_numeral(word) {
-        return Ok((any_numbers(alloc)?, words));
+        return Ok((Ports::any(alloc)?, words));
     }
     let code = octet(word)?;
     Ok((one_number(alloc, code)?, rest))
@@ -58,7 +58,7 @@ fn named_code(alloc: Global, code: Option<u8>) -> Result<Ports, AllocError>
 {
     match code {
         Some(code) => one_number(alloc, u16::from(code)),
-        None => any_numbers(alloc),
+        None => Ports::any(alloc),
     }
 }
 
@@ -76,10 +76,10 @@ fn message_or_option<'a>(
         let numbers = one_number(alloc, u16::from(number))?;
         return Ok(((numbers, named_code(alloc, code)?), rest));
     }
-    if !is_log(word) && !is_unsupported(word) {
+    if !is_message_option(word) && !is_unsupported(word) {
         return Err(LineError::Faulty(ConfigWhy::UnknownName));
     }
-    Ok(((any_numbers(alloc)?, any_numbers(alloc)?), words))
+    Ok(((Ports::any(alloc)?, Ports::any(alloc)?), words))
 }
 
 /// The types and codes that stand here, and all of them where none do.
@@ -91,7 +91,7 @@ pub fn message_tests<'a>(
     ensures { Reads result (judging.message_tests (texts words.now)) }
 {
     let [word, rest @ ..] = words else {
-        return Ok(((any_numbers(alloc)?, any_numbers(alloc)?), words));
+        return Ok(((Ports::any(alloc)?, Ports::any(alloc)?), words));
     };
     if is_numeral(word) {
         message_numbers(alloc, word, rest)

@@ -6,19 +6,19 @@ ghost use Rattle.np_acl_read.specs.Entries as judging;
 
 use crate::fault::ConfigWhy;
 use crate::line_error::LineError;
-use crate::spans::{above, all_but, any_numbers, below, each, from_to};
+use crate::spans::{above, all_but, below, each, from_to};
 use crate::words::{is_numeral, next_word, too_great_or};
-use np_acl::{Ports, port_of};
+use np_acl::{PortNames, Ports, port_of};
 use std::alloc::Global;
 
 /// A port may have so many others beside it, with itself.
 const PORT_LIMIT: usize = 10;
 
 /// A port, by its number or its name.
-fn port_named(tcp: bool, word: &[u8]) -> Result<u16, LineError>
-    ensures { Gives result (judging.port_of tcp word.now) }
+fn port_named(names: PortNames, word: &[u8]) -> Result<u16, LineError>
+    ensures { Gives result (judging.port_of names word.now) }
 {
-    match port_of(word, tcp) {
+    match port_of(word, names) {
         Some(port) => Ok(port),
         None => Err(LineError::Faulty(too_great_or(word, ConfigWhy::UnknownName))),
     }
@@ -26,47 +26,47 @@ fn port_named(tcp: bool, word: &[u8]) -> Result<u16, LineError>
 
 /// The port that has to stand here.
 #[tactic(auto, unfolding(crate::specs::Entries::port_in))]
-fn port<'a>(tcp: bool, words: &'a [&'a [u8]]) -> Result<(u16, &'a [&'a [u8]]), LineError>
-    ensures { Reads result (judging.port_in tcp (texts words.now)) }
+fn port<'a>(names: PortNames, words: &'a [&'a [u8]]) -> Result<(u16, &'a [&'a [u8]]), LineError>
+    ensures { Reads result (judging.port_in names (texts words.now)) }
 {
     let (word, words) = next_word(words)?;
-    Ok((port_named(tcp, word)?, words))
+    Ok((port_named(names, word)?, words))
 }
 
 /// Whether a word is a number or the name of a port.
-fn is_port(tcp: bool, word: &[u8]) -> bool
-    ensures { result ≡ judging.is_port tcp word.now }
+fn is_port(names: PortNames, word: &[u8]) -> bool
+    ensures { result ≡ judging.is_port names word.now }
 {
-    is_numeral(word) || port_of(word, tcp).is_some()
+    is_numeral(word) || port_of(word, names).is_some()
 }
 
 /// One more port where there are so many.
-fn one_more(tcp: bool, count: usize, word: &[u8]) -> Result<u16, LineError>
-    ensures { Gives result (judging.one_more tcp count word.now) }
+fn one_more(names: PortNames, count: usize, word: &[u8]) -> Result<u16, LineError>
+    ensures { Gives result (judging.one_more names count word.now) }
 {
     if count == PORT_LIMIT {
         return Err(LineError::Faulty(ConfigWhy::BadEntry));
     }
-    port_named(tcp, word)
+    port_named(names, word)
 }
 
 /// One port to ten.
 fn ports<'a>(
     alloc: Global,
-    tcp: bool,
+    names: PortNames,
     words: &'a [&'a [u8]],
 ) -> Result<(Vec<u16>, &'a [&'a [u8]]), LineError>
-    ensures ok { IfOk result (λ read. judging.ports_in tcp (texts words.now) ≡ Ok (read.0.items, texts read.1.now)) }
-    ensures err { IfErr result (λ e. StopsAs e (judging.ports_in tcp (texts words.now))) }
+    ensures ok { IfOk result (λ read. judging.ports_in names (texts words.now) ≡ Ok (read.0.items, texts read.1.now)) }
+    ensures err { IfErr result (λ e. StopsAs e (judging.ports_in names (texts words.now))) }
 {
-    let (first, mut left) = port(tcp, words)?;
+    let (first, mut left) = port(names, words)?;
     let mut ports = Vec::new(alloc);
     ports.push(first)?;
     while let [word, rest @ ..] = left {
-        if !is_port(tcp, word) {
+        if !is_port(names, word) {
             return Ok((ports, left));
         }
-        ports.push(one_more(tcp, ports.len(), word)?)?;
+        ports.push(one_more(names, ports.len(), word)?)?;
         left = rest;
     }
     Ok((ports, left))
@@ -75,48 +75,48 @@ fn ports<'a>(
 /// The ports of `eq`.
 fn equal<'a>(
     alloc: Global,
-    tcp: bool,
+    names: PortNames,
     words: &'a [&'a [u8]],
 ) -> Result<(Ports, &'a [&'a [u8]]), LineError>
-    ensures { Reads result (judging.equal_in tcp (texts words.now)) }
+    ensures { Reads result (judging.equal_in names (texts words.now)) }
 {
-    let (ports, words) = ports(alloc, tcp, words)?;
+    let (ports, words) = ports(alloc, names, words)?;
     Ok((each(alloc, ports.as_slice())?, words))
 }
 
 /// The ports of `neq`.
 fn unequal<'a>(
     alloc: Global,
-    tcp: bool,
+    names: PortNames,
     words: &'a [&'a [u8]],
 ) -> Result<(Ports, &'a [&'a [u8]]), LineError>
-    ensures { Reads result (judging.unequal_in tcp (texts words.now)) }
+    ensures { Reads result (judging.unequal_in names (texts words.now)) }
 {
-    let (ports, words) = ports(alloc, tcp, words)?;
+    let (ports, words) = ports(alloc, names, words)?;
     Ok((all_but(alloc, ports.as_slice())?, words))
 }
 
 /// The ports of `lt`.
 fn less<'a>(
     alloc: Global,
-    tcp: bool,
+    names: PortNames,
     words: &'a [&'a [u8]],
 ) -> Result<(Ports, &'a [&'a [u8]]), LineError>
-    ensures { Reads result (judging.less_in tcp (texts words.now)) }
+    ensures { Reads result (judging.less_in names (texts words.now)) }
 {
-    let (port, words) = port(tcp, words)?;
+    let (port, words) = port(names, words)?;
     Ok((below(alloc, port)?, words))
 }
 
 /// The ports of `gt`.
 fn greater<'a>(
     alloc: Global,
-    tcp: bool,
+    names: PortNames,
     words: &'a [&'a [u8]],
 ) -> Result<(Ports, &'a [&'a [u8]]), LineError>
-    ensures { Reads result (judging.greater_in tcp (texts words.now)) }
+    ensures { Reads result (judging.greater_in names (texts words.now)) }
 {
-    let (port, words) = port(tcp, words)?;
+    let (port, words) = port(names, words)?;
     Ok((above(alloc, port)?, words))
 }
 
@@ -124,13 +124,13 @@ fn greater<'a>(
 #[tactic(auto, unfolding(crate::specs::Entries::range_in))]
 fn range<'a>(
     alloc: Global,
-    tcp: bool,
+    names: PortNames,
     words: &'a [&'a [u8]],
 ) -> Result<(Ports, &'a [&'a [u8]]), LineError>
-    ensures { Reads result (judging.range_in tcp (texts words.now)) }
+    ensures { Reads result (judging.range_in names (texts words.now)) }
 {
-    let (low, words) = port(tcp, words)?;
-    let (high, words) = port(tcp, words)?;
+    let (low, words) = port(names, words)?;
+    let (high, words) = port(names, words)?;
     if low > high {
         return Err(LineError::Faulty(ConfigWhy::BadRange));
     }
@@ -140,43 +140,43 @@ fn range<'a>(
 /// The ports that stand here, and every port where none do.
 fn tests<'a>(
     alloc: Global,
-    tcp: bool,
+    names: PortNames,
     words: &'a [&'a [u8]],
 ) -> Result<(Ports, &'a [&'a [u8]]), LineError>
-    ensures { Reads result (judging.tests_in tcp (texts words.now)) }
+    ensures { Reads result (judging.tests_in names (texts words.now)) }
 {
     let [word, rest @ ..] = words else {
-        return Ok((any_numbers(alloc)?, words));
+        return Ok((Ports::any(alloc)?, words));
     };
     if *word == b"eq".as_slice() {
-        return equal(alloc, tcp, rest);
+        return equal(alloc, names, rest);
     }
     if *word == b"neq".as_slice() {
-        return unequal(alloc, tcp, rest);
+        return unequal(alloc, names, rest);
     }
     if *word == b"lt".as_slice() {
-        return less(alloc, tcp, rest);
+        return less(alloc, names, rest);
     }
     if *word == b"gt".as_slice() {
-        return greater(alloc, tcp, rest);
+        return greater(alloc, names, rest);
     }
     if *word == b"range".as_slice() {
-        return range(alloc, tcp, rest);
+        return range(alloc, names, rest);
     }
-    Ok((any_numbers(alloc)?, words))
+    Ok((Ports::any(alloc)?, words))
 }
 
-/// The ports that stand here, where the protocol has ports: TCP's names where `tcp` is true.
+/// The ports that stand here, where the protocol has ports: by these names.
 #[tactic(auto, unfolding(crate::specs::Entries::port_tests))]
 pub fn port_tests<'a>(
     alloc: Global,
-    tcp: Option<bool>,
+    names: Option<PortNames>,
     words: &'a [&'a [u8]],
 ) -> Result<(Ports, &'a [&'a [u8]]), LineError>
-    ensures { Reads result (judging.port_tests tcp (texts words.now)) }
+    ensures { Reads result (judging.port_tests names (texts words.now)) }
 {
-    match tcp {
-        Some(tcp) => tests(alloc, tcp, words),
-        None => Ok((any_numbers(alloc)?, words)),
+    match names {
+        Some(names) => tests(alloc, names, words),
+        None => Ok((Ports::any(alloc)?, words)),
     }
 }

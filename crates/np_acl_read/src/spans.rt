@@ -2,55 +2,25 @@
 
 ghost use Rattle.std.specs.Prelude.{◌≡◌, ◌∷◌, [], ◌≤◌, ◌<◌, ◌++◌, IfOk, OnOk, map, fold};
 ghost use Rattle.std.specs.List.{flat_map};
-ghost use Rattle.np_acl.specs.Tables.{span_from};
+ghost use Rattle.np_space.specs.Span.{span_from};
 ghost use Rattle.np_acl_read.specs.Spans as tested;
 
-use np_acl::{Ports, span_from};
-use np_space::{Span, Ternary};
+use np_acl::Ports;
+use np_space::Span;
 use std::alloc::{AllocError, Global};
-
-/// One number.
-pub fn only(number: u16) -> Span
-    ensures { result ≡ tested.only number }
-{
-    span_from(number, number)
-}
-
-/// Every port, type or code.
-fn any_number() -> Span
-    ensures { result ≡ tested.any_number }
-{
-    span_from(0, 65535)
-}
-
-/// One span, as those of an entry.
-fn one_span(alloc: Global, span: Span) -> Result<Ports, AllocError>
-    ensures { IfOk result (λ ports. ports ≡ span ∷ []) }
-{
-    let mut ports = Ports::new(alloc);
-    ports.push(span)?;
-    Ok(ports)
-}
-
-/// Every port, type or code, as those of an entry.
-pub fn any_numbers(alloc: Global) -> Result<Ports, AllocError>
-    ensures { IfOk result (λ ports. ports ≡ tested.any_number ∷ []) }
-{
-    one_span(alloc, any_number())
-}
 
 /// One port, type or code, as those of an entry.
 pub fn one_number(alloc: Global, number: u16) -> Result<Ports, AllocError>
     ensures { IfOk result (λ ports. ports ≡ tested.only number ∷ []) }
 {
-    one_span(alloc, only(number))
+    Ports::of(alloc, Span::only(number))
 }
 
 /// The ports from one to another.
 pub fn from_to(alloc: Global, low: u16, high: u16) -> Result<Ports, AllocError>
     ensures { IfOk result (λ ports. ports ≡ span_from low high ∷ []) }
 {
-    one_span(alloc, span_from(low, high))
+    Ports::of(alloc, Span::from_to(low, high))
 }
 
 /// The ports below one.
@@ -58,7 +28,7 @@ pub fn below(alloc: Global, port: u16) -> Result<Ports, AllocError>
     ensures { IfOk result (λ ports. ports ≡ tested.below port) }
 {
     if port > 0 {
-        one_span(alloc, span_from(0, port - 1))
+        Ports::of(alloc, Span::from_to(0, port - 1))
     } else {
         Ok(Ports::new(alloc))
     }
@@ -69,7 +39,7 @@ pub fn above(alloc: Global, port: u16) -> Result<Ports, AllocError>
     ensures { IfOk result (λ ports. ports ≡ tested.above port) }
 {
     if port < u16::MAX {
-        one_span(alloc, span_from(port + 1, u16::MAX))
+        Ports::of(alloc, Span::from_to(port + 1, u16::MAX))
     } else {
         Ok(Ports::new(alloc))
     }
@@ -81,7 +51,7 @@ pub fn each(alloc: Global, ports: &[u16]) -> Result<Ports, AllocError>
 {
     let mut spans = Ports::new(alloc);
     for port in ports {
-        spans.push(only(*port))?;
+        spans.push(Span::only(*port))?;
     }
     Ok(spans)
 }
@@ -94,10 +64,10 @@ fn push_without(spans: &mut Ports, span: Span, number: u16) -> Result<(), AllocE
         return spans.push(span);
     }
     if span.low < number {
-        spans.push(span_from(span.low, number - 1))?;
+        spans.push(Span::from_to(span.low, number - 1))?;
     }
     if number < span.high {
-        spans.push(span_from(number + 1, span.high))?;
+        spans.push(Span::from_to(number + 1, span.high))?;
     }
     Ok(())
 }
@@ -117,50 +87,28 @@ fn without(alloc: Global, spans: &Ports, number: u16) -> Result<Ports, AllocErro
 pub fn all_but(alloc: Global, ports: &[u16]) -> Result<Ports, AllocError>
     ensures { IfOk result (λ spans. spans ≡ tested.all_but ports.now) }
 {
-    let mut spans = any_numbers(alloc)?;
+    let mut spans = Ports::any(alloc)?;
     for port in ports {
         spans = without(alloc, &spans, *port)?;
     }
     Ok(spans)
 }
 
-/// Every protocol.
-pub fn any_protocol() -> Span
-    ensures { result ≡ tested.any_protocol }
-{
-    span_from(0, 255)
-}
-
-/// Whether a connection is established or not.
-pub fn any_flag() -> Span
-    ensures { result ≡ tested.any_flag }
-{
-    span_from(0, 1)
-}
-
 /// The flag of an entry that asks for established connections, or doesn't ask.
 pub fn flag(established: bool) -> Span
     ensures { result ≡ tested.flag_test established }
 {
-    if established { only(1) } else { any_flag() }
-}
-
-/// The numbers that agree with an address on each bit that isn't wild.
-pub fn pattern(address: u32, wild: u32) -> Ternary
-    ensures { result ≡ tested.pattern address wild }
-{
-    Ternary {
-        value: address & !wild,
-        wild,
+    if established {
+        Span::only(1)
+    } else {
+        Span::from_to(0, 1)
     }
 }
 
-/// Every address.
-pub fn any_address() -> Ternary
-    ensures { result ≡ tested.any_address }
+/// The code points of a precedence, which is their upper three bits.
+pub fn precedence_span(precedence: u8) -> Span
+    ensures { result ≡ tested.precedence_span precedence }
 {
-    Ternary {
-        value: 0,
-        wild: u32::MAX,
-    }
+    let first = 8 * u16::from(precedence);
+    Span::from_to(first, first + 7)
 }

@@ -1,6 +1,6 @@
 //! What a line of a configuration declares.
 
-use np_acl::Entry;
+use np_acl::{Entry, ListKind, Way};
 use np_text::Name;
 
 /// An entry of a list, with its sequence number.
@@ -20,7 +20,7 @@ pub enum Statement {
     /// `ip access-list extended NAME` or `ip access-list standard NAME`: the section of a list.
     Section {
         list: Name,
-        extended: bool,
+        kind: ListKind,
     },
     /// `access-list N remark ..`
     Remark(Name),
@@ -31,7 +31,7 @@ pub enum Statement {
     /// `ip access-group NAME in` or `ip access-group NAME out`.
     Group {
         interface: Name,
-        inward: bool,
+        way: Way,
         list: Name,
     },
     /// Any other line.

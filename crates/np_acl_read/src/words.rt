@@ -10,12 +10,12 @@ ghost use Rattle.np_acl_read.specs.Words as judging;
 
 use crate::fault::ConfigWhy;
 use crate::line_error::LineError;
+use np_acl::{ListKind, Way};
 
 /// What the lists of a configuration could say that this program has no answer to.
-const UNSUPPORTED: [&[u8]; 20] = [
+const UNSUPPORTED: [&[u8]; 18] = [
     b"ack",
     b"addrgroup",
-    b"dscp",
     b"dynamic",
     b"evaluate",
     b"fin",
@@ -24,7 +24,6 @@ const UNSUPPORTED: [&[u8]; 20] = [
     b"match-any",
     b"object-group",
     b"option",
-    b"precedence",
     b"psh",
     b"reflect",
     b"rst",
@@ -101,15 +100,15 @@ pub fn too_great_or(word: &[u8], fault: ConfigWhy) -> ConfigWhy
     }
 }
 
-/// Whether a way is `in`, and not `out`.
-pub fn is_inward(word: &[u8]) -> Result<bool, LineError>
+/// The way of `in` or `out`.
+pub fn way(word: &[u8]) -> Result<Way, LineError>
     ensures { Gives result (judging.way_of word.now) }
 {
     if word == b"in".as_slice() {
-        return Ok(true);
+        return Ok(Way::Inward);
     }
     if word == b"out".as_slice() {
-        return Ok(false);
+        return Ok(Way::Outward);
     }
     Err(LineError::Faulty(ConfigWhy::BadEntry))
 }
@@ -127,13 +126,13 @@ pub fn action(word: &[u8]) -> Option<bool>
     None
 }
 
-/// Whether the list of a number is extended. `None` where the number is no list's.
-pub fn kind_of_number(number: u64) -> Option<bool>
+/// The kind of the list of a number. `None` where the number is no list's.
+pub fn kind_of_number(number: u64) -> Option<ListKind>
     ensures { result ≡ judging.kind_of_number number }
 {
     match number {
-        100..=199 | 2000..=2699 => Some(true),
-        1..=99 | 1300..=1999 => Some(false),
+        100..=199 | 2000..=2699 => Some(ListKind::Extended),
+        1..=99 | 1300..=1999 => Some(ListKind::Standard),
         _ => None,
     }
 }

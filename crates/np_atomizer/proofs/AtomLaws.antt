@@ -10,16 +10,16 @@ use Rattle.std.proofs.lemmas.List.{map-append, length-map, get_or-map as get_or_
 use Rattle.std.proofs.lemmas.List.Elements.{All-nil, All-head, All-tail, All-push, All-map, All-weaker, recursion_from_All}
 use Rattle.std.proofs.lemmas.List.Sorted.{All-permutation, IsPermutation-map, sum_by-IsPermutation, sorted_far, ranks_by}
 use Rattle.np_space.specs.Flag.{flag_number}
-use Rattle.np_space.specs.Header.{is_valid_header, IsValid, IsLeast, header_order}
+use Rattle.np_space.specs.Classes.{cuts_say, IsAlike, IsLeastAlike, HasAlike}
+use Rattle.np_space.specs.Header.{is_valid_header, IsValid, IsLeast, header_order, zeros}
 use Rattle.np_space.specs.declared.headers.Header.{Header}
+use Rattle.np_space.proofs.ClassLaws.{before_from_distinct}
 use Rattle.np_space.proofs.FlagLemmas.{flag_small}
 use Rattle.np_space.proofs.HeaderLemmas.{order_total}
-use Rattle.np_region.specs.Keeping.{KeepsRegions, EachFits}
-use Rattle.np_atomizer.specs.Classes.{cuts_say, IsAlike, IsLeastAlike, HasAlike, first_header}
-use Rattle.np_atomizer.specs.Atoms.{tests_of, regions_of, leasts_of, answers_of, AreAtoms}
+use Rattle.np_region.specs.Keeping.{KeepsRegions, EachFits, tests_of}
+use Rattle.np_atomizer.specs.Atoms.{regions_of, leasts_of, answers_of, AreAtoms}
 use Rattle.np_atomizer.specs.Splitting.{count_having, HasSome, IsClass, AreClasses, IsRead}
 use Rattle.np_atomizer.specs.declared.atom_list.Atom.{Atom}
-use Rattle.np_atomizer.proofs.ClassLaws.{before_from_distinct}
 use Rattle.np_atomizer.proofs.SplitLaws.{count_cons}
 
 -- an element of a list that equals another
@@ -36,6 +36,7 @@ module _ {S R : Type 0} (fits : S → R → Type 0) (has : S → R → Header �
     pub same : regions_of atoms ++ left ≡ regions
     pub read : All (IsRead has s cuts) atoms
 
+  -- before the first class
   pub read_none : (s : S) (cuts regions left : List R) (atoms : List (Atom R)) → left ≡ regions → atoms ≡ [] → EachFits fits s regions → All (HasSome has s) regions → AreReadTo s cuts regions left atoms
   read_none s cuts regions left atoms e p fit some =
       subst (λ l. AreReadTo s cuts regions l atoms) (sym e) (subst (λ l. AreReadTo s cuts regions regions l) (sym p) (record {
@@ -45,10 +46,12 @@ module _ {S R : Type 0} (fits : S → R → Type 0) (has : S → R → Header �
         read = All-nil (IsRead has s cuts);
       }))
 
+  -- the next class fits the store and is not empty
   pub next_fits : (s : S) (cuts regions left rest : List R) (r : R) (atoms : List (Atom R)) → left ≡ r ∷ rest → AreReadTo s cuts regions left atoms → fits s r × HasSome has s r
   next_fits s cuts regions left rest r atoms e so_far =
       (All-head (fits s) r rest (subst (EachFits fits s) e so_far.fit), All-head (HasSome has s) r rest (subst (All (HasSome has s)) e so_far.some))
 
+  -- one class more
   pub read_more : (s : S) (cuts regions left rest : List R) (r : R) (atoms after : List (Atom R)) (a : Atom R) → left ≡ r ∷ rest → after ≡ atoms ++ a ∷ [] → AreReadTo s cuts regions left atoms → a.region ≡ r → IsRead has s cuts a → AreReadTo s cuts regions rest after
   read_more s cuts regions left rest r atoms after a e p so_far at read =
       subst (λ l. AreReadTo s cuts regions rest l) (sym p) (record {
@@ -63,6 +66,7 @@ module _ {S R : Type 0} (fits : S → R → Type 0) (has : S → R → Header �
         read = All-push (IsRead has s cuts) atoms a so_far.read read;
       })
 
+  -- after the last class
   pub read_all : (s : S) (cuts regions left : List R) (atoms : List (Atom R)) → length left ≡ 0 → AreReadTo s cuts regions left atoms → regions_of atoms ≡ regions
   read_all s cuts regions [] atoms none so_far = sym (append-nil (regions_of atoms)) ∙ so_far.same
     where
@@ -70,9 +74,6 @@ module _ {S R : Type 0} (fits : S → R → Type 0) (has : S → R → Header �
       append-nil [] = refl
       append-nil (x ∷ xs) = ap (λ l. x ∷ l) (append-nil xs)
   read_all s cuts regions (r ∷ left) atoms none so_far = absurd (omega arith)
-
-  pub classes_some : (s : S) (tests : List (Header → Bool)) (rs : List R) → All (IsClass fits has s tests) rs → All (HasSome has s) rs
-  classes_some s tests rs all = All-weaker (IsClass fits has s tests) (HasSome has s) (λ r c. c.some) rs all
 
   -- what the cuts say as tests of the store before they were cut
   answers_said : (old s : S) (cuts : List R) (h : Header) → KeepsRegions fits has old s → EachFits fits old cuts → map (λ cut. has s cut h) cuts ≡ cuts_say (tests_of has old cuts) h
@@ -82,6 +83,7 @@ module _ {S R : Type 0} (fits : S → R → Type 0) (has : S → R → Header �
 
   -- ---- how many atoms have a header
 
+  -- an atom that has the header counts
   some_counted : (s : S) (atoms : List (Atom R)) (n : ℕ) (d : Atom R) (h : Header) → n < length atoms → has s (get_or atoms n d).region h ≡ true → 1 ≤ count_having has s (regions_of atoms) h
   some_counted s [] n d h l p = absurd (omega arith)
   some_counted s (a ∷ atoms) zero d h l p =
@@ -94,6 +96,7 @@ module _ {S R : Type 0} (fits : S → R → Type 0) (has : S → R → Header �
       let rest = some_counted s atoms n d h below p in
       omega arith
 
+  -- and where some count, one has it
   counted_some : (s : S) (atoms : List (Atom R)) (h : Header) → 1 ≤ count_having has s (regions_of atoms) h → Any (λ a. has s a.region h ≡ true) atoms
   counted_some s [] h l = absurd (omega arith)
   counted_some s (a ∷ atoms) h l =
@@ -110,9 +113,11 @@ module _ {S R : Type 0} (fits : S → R → Type 0) (has : S → R → Header �
 
   -- ---- the order of the atoms
 
+  -- the first atom does not stand after the second
   abbrev IsNotAfter : Atom R → Atom R → Type 0
   IsNotAfter x y = is_lt (header_order y.least x.least) ≡ false
 
+  -- so it is with any two of a sorted list
   pairs_from_sorted : (atoms : List (Atom R)) → IsSortedBy (λ x y. is_lt (header_order x.least y.least)) atoms → AllPairs IsNotAfter atoms
   pairs_from_sorted atoms sorted i j d l m =
       sorted_far (λ x y. is_lt (header_order x.least y.least)) (ranks_by order_total (λ (x : Atom R). x.least)) atoms sorted i j d (omega arith) m
@@ -155,6 +160,7 @@ module _ {S R : Type 0} (fits : S → R → Type 0) (has : S → R → Header �
     pub least : IsLeast (has s a.region) a.least
     pub answers : a.answers.items ≡ cuts_say tests a.least
 
+  -- what is read of classes is atoms
   all_atoms : (s : S) (tests : List (Header → Bool)) (cuts : List R) (atoms : List (Atom R)) → ((h : Header) → map (λ cut. has s cut h) cuts ≡ cuts_say tests h) → All (IsClass fits has s tests) (regions_of atoms) → All (IsRead has s cuts) atoms → All (IsAtom s tests) atoms
   all_atoms s tests cuts atoms said classes read = λ k d l.
       let a = get_or atoms k d in
@@ -166,12 +172,14 @@ module _ {S R : Type 0} (fits : S → R → Type 0) (has : S → R → Header �
         answers = one.answers ∙ said a.least;
       }
 
+  -- their answers are what the cuts say of their least members
   answers_are : (s : S) (tests : List (Header → Bool)) (atoms : List (Atom R)) → All (IsAtom s tests) atoms → answers_of atoms ≡ map (cuts_say tests) (leasts_of atoms)
   answers_are s tests [] all = refl
   answers_are s tests (a ∷ atoms) all =
       λ i. (All-head (IsAtom s tests) a atoms all).answers i ∷ answers_are s tests atoms (All-tail (IsAtom s tests) a atoms all) i
 
   module _ (valid : (s : S) (r : R) (h : Header) → fits s r → IsTrue (has s r h) → IsValid h) where
+    -- the least member of an atom is the least that is alike
     least_alike : (s : S) (tests : List (Header → Bool)) (a : Atom R) → IsAtom s tests a → IsLeastAlike tests a.least
     least_alike s tests a atom =
         record {
@@ -179,6 +187,7 @@ module _ {S R : Type 0} (fits : S → R → Type 0) (has : S → R → Header �
           least = λ h v alike. atom.least.least h (atom.class.all a.least h atom.least.has v alike);
         }
 
+    -- sorted atoms are the atoms of the tests
     pub atoms_in_order : (s : S) (tests : List (Header → Bool)) (atoms : List (Atom R)) → All (IsAtom s tests) atoms → ((h : Header) → count_having has s (regions_of atoms) h ≡ flag_number (is_valid_header h)) → IsSortedBy (λ x y. is_lt (header_order x.least y.least)) atoms → AreAtoms fits has s tests atoms
     atoms_in_order s tests atoms all count sorted =
         record {
@@ -233,10 +242,12 @@ module _ {S R : Type 0} (fits : S → R → Type 0) (has : S → R → Header �
 
   -- ---- the atom that has a header
 
+  -- its region fits the store
   pub region_fits : (s : S) (atoms : List (Atom R)) (n : ℕ) (a : Atom R) → EachFits fits s (regions_of atoms) → n < length atoms → a ≡ get_or atoms n a → fits s a.region
   region_fits s atoms n a each l at =
       subst (fits s) (get_or-map (λ x. x.region) atoms n a ∙ ap (λ x. x.region) (sym at)) (each n a.region (subst (λ k. n < k) (sym (length-map atoms (λ (x : Atom R). x.region))) l))
 
+  -- and its least member is alike
   pub alike_found : (s : S) (atoms : List (Atom R)) (n : ℕ) (a : Atom R) (h : Header) → n < length atoms → a ≡ get_or atoms n a → (answer : Bool) → answer ≡ has s a.region h → answer ≡ true → (tests : List (Header → Bool)) → AreAtoms fits has s tests atoms → (d : Header) → IsAlike tests (get_or (leasts_of atoms) n d) h
   alike_found s atoms n a h l at answer e p tests are d =
       let exact = are.exact n a l h in
@@ -245,6 +256,7 @@ module _ {S R : Type 0} (fits : S → R → Type 0) (has : S → R → Header �
 
   -- ---- for callers
 
+  -- the answers of the n-th atom
   answers_at : (s : S) (tests : List (Header → Bool)) (atoms : List (Atom R)) (n : ℕ) → AreAtoms fits has s tests atoms → n < length atoms → (d : Header) → get_or (answers_of atoms) n [] ≡ cuts_say tests (get_or (leasts_of atoms) n d)
   answers_at s tests atoms n are l d =
       ap (λ xs. get_or xs n []) are.answers
@@ -274,7 +286,7 @@ module _ {S R : Type 0} (fits : S → R → Type 0) (has : S → R → Header �
 
   -- each atom has an answer for each cut
   pub answers_counted : (s : S) (tests : List (Header → Bool)) (atoms : List (Atom R)) (n : ℕ) → AreAtoms fits has s tests atoms → n < length atoms → length (get_or (answers_of atoms) n []) ≡ length tests
-  answers_counted s tests atoms n are l = ap length (answers_at s tests atoms n are l first_header) ∙ length-map tests (λ test. test (get_or (leasts_of atoms) n first_header))
+  answers_counted s tests atoms n are l = ap length (answers_at s tests atoms n are l zeros) ∙ length-map tests (λ test. test (get_or (leasts_of atoms) n zeros))
 
   -- which is the cut's test of the atom's least member
   pub answer_said : (s : S) (tests : List (Header → Bool)) (atoms : List (Atom R)) (n k : ℕ) (d : Header) (e : Header → Bool) → AreAtoms fits has s tests atoms → n < length atoms → k < length tests → get_or (get_or (answers_of atoms) n []) k false ≡ get_or tests k e (get_or (leasts_of atoms) n d)

@@ -1,3 +1,2 @@
-pub mod ClassLaws
 pub mod SplitLaws
 pub mod AtomLaws

@@ -7,53 +7,52 @@ use Rattle.std.proofs.lemmas.List.{map-append}
 use Rattle.std.proofs.lemmas.List.Elements.{All-nil, All-cons, All-head, All-tail, All-append, All-weaker}
 use Rattle.std.proofs.lemmas.List.Sums.{sum_by-cons, sum_by-append}
 use Rattle.np_space.specs.Flag.{flag_number}
-use Rattle.np_space.specs.Header.{is_valid_header}
+use Rattle.np_space.specs.Header.{is_valid_header, zeros}
 use Rattle.np_space.specs.declared.headers.Header.{Header}
-use Rattle.np_space.proofs.FlagLemmas.{flag_apart, and_both}
-use Rattle.np_region.specs.Keeping.{KeepsRegions, EachFits}
+use Rattle.np_space.proofs.ClassLaws.{alike_more, alike_fewer, zeros_valid}
+use Rattle.np_space.proofs.FlagLemmas.{flag_apart, and_both, and_true}
+use Rattle.np_region.specs.Keeping.{KeepsRegions, EachFits, tests_of}
 use Rattle.np_region.proofs.KeepingLemmas.{keeps_itself, keeps_chained, each_fits_kept}
-use Rattle.np_atomizer.specs.Classes.{first_header}
-use Rattle.np_atomizer.specs.Atoms.{tests_of}
 use Rattle.np_atomizer.specs.Splitting.{count_having, HasSome, IsClass, AreClasses, AreParts, HasParts}
-use Rattle.np_atomizer.proofs.ClassLaws.{alike_more, alike_fewer, first_valid}
 
 -- ---- tests of two flags
 
+-- both flags are set
 both_true : (r c : Bool) → (r && c) ≡ true → (r ≡ true) × (c ≡ true)
 both_true true c e = (refl, e)
 both_true false c e = absurd (true≢false (sym e))
 
+-- the first alone is
 one_not : (r c : Bool) → (r && not c) ≡ true → (r ≡ true) × (c ≡ false)
 one_not true false e = (refl, refl)
 one_not true true e = absurd (true≢false (sym e))
 one_not false c e = absurd (true≢false (sym e))
 
+-- and the test holds where it is
 and_not : (r c : Bool) → r ≡ true → c ≡ false → (r && not c) ≡ true
 and_not r c er ec = (λ i. er i && not (ec i))
 
-other_false : (r c : Bool) → r ≡ true → (r && c) ≡ false → c ≡ false
-other_false r c er e = sym (ap (λ t. t && c) er) ∙ e
-
+-- and not alone, so both are
 other_true : (r c : Bool) → r ≡ true → (r && not c) ≡ false → c ≡ true
 other_true r true er e = refl
-other_true r false er e = absurd (true≢false (sym er ∙ sym (and_one r) ∙ e))
-  where
-    and_one : (t : Bool) → (t && true) ≡ t
-    and_one true = refl
-    and_one false = refl
+other_true r false er e = absurd (true≢false (sym er ∙ sym (and_true r) ∙ e))
 
 module _ {S R : Type 0} (fits : S → R → Type 0) (has : S → R → Header → Bool) where
   -- ---- counts
 
+  -- one region
   pub count_one : (s : S) (r : R) (h : Header) → count_having has s (r ∷ []) h ≡ flag_number (has s r h)
   count_one s r h = zero-add (flag_number (has s r h))
 
+  -- a region more at the start
   pub count_cons : (s : S) (r : R) (rs : List R) (h : Header) → count_having has s (r ∷ rs) h ≡ flag_number (has s r h) + count_having has s rs h
   count_cons s r rs h = sum_by-cons (λ x. flag_number (has s x h)) r rs
 
+  -- the regions of two lists
   pub count_append : (s : S) (xs ys : List R) (h : Header) → count_having has s (xs ++ ys) h ≡ count_having has s xs h + count_having has s ys h
   count_append s xs ys h = sum_by-append (λ x. flag_number (has s x h)) xs ys
 
+  -- a call that keeps the regions keeps the count
   count_kept : (s t : S) (rs : List R) (h : Header) → KeepsRegions fits has s t → EachFits fits s rs → count_having has t rs h ≡ count_having has s rs h
   count_kept s t [] h k each = refl
   count_kept s t (r ∷ rs) h k each =
@@ -63,6 +62,7 @@ module _ {S R : Type 0} (fits : S → R → Type 0) (has : S → R → Header �
 
   -- ---- one class
 
+  -- a class stays one over a call that keeps the regions
   pub class_kept : (s t : S) (tests : List (Header → Bool)) (r : R) → KeepsRegions fits has s t → IsClass fits has s tests r → IsClass fits has t tests r
   class_kept s t tests r k c =
       record {
@@ -71,9 +71,6 @@ module _ {S R : Type 0} (fits : S → R → Type 0) (has : S → R → Header �
         only = λ h g p q. c.only h g (sym (k.same r c.fit h) ∙ p) (sym (k.same r c.fit g) ∙ q);
         all = λ h g p v alike. k.same r c.fit g ∙ c.all h g (sym (k.same r c.fit h) ∙ p) v alike;
       }
-
-  pub classes_fit : (s : S) (tests : List (Header → Bool)) (rs : List R) → All (IsClass fits has s tests) rs → EachFits fits s rs
-  classes_fit s tests rs all = All-weaker (IsClass fits has s tests) (fits s) (λ r c. c.fit) rs all
 
   -- the headers of a class for which a cut answers the same
   part_class : (s t : S) (cut r z : R) (answer : Bool) (tests : List (Header → Bool)) → IsClass fits has s tests r → fits t z → HasSome has t z → ((h : Header) → has t z h ≡ true → (has s r h ≡ true) × (has s cut h ≡ answer)) → ((h : Header) → has s r h ≡ true → has s cut h ≡ answer → has t z h ≡ true) → IsClass fits has t (tests ++ has s cut ∷ []) z
@@ -105,15 +102,13 @@ module _ {S R : Type 0} (fits : S → R → Type 0) (has : S → R → Header �
         count = λ h. count_one t r h ∙ ap flag_number (k.same r fr h);
       }
 
-  pub no_inside : (s t : S) (cut r inside : R) → KeepsRegions fits has s t → fits s r → ((h : Header) → has t inside h ≡ (has s r h && has s cut h)) → ((h : Header) → has t inside h ≡ false) → AreParts fits has s t cut r (r ∷ [])
-  no_inside s t cut r inside k fr exact none =
-      one_part s t cut r false k fr (λ h p. other_false (has s r h) (has s cut h) p (sym (exact h) ∙ none h))
-
+  -- so does a cut that has all of them
   pub no_outside : (s t u : S) (cut r outside : R) → KeepsRegions fits has s t → KeepsRegions fits has t u → fits s r → fits s cut → ((h : Header) → has u outside h ≡ (has t r h && not (has t cut h))) → ((h : Header) → has u outside h ≡ false) → AreParts fits has s u cut r (r ∷ [])
   no_outside s t u cut r outside k l fr fc exact none =
       one_part s u cut r true (keeps_chained fits has s t u k l) fr (λ h p.
       other_true (has s r h) (has s cut h) p ((λ i. sym (k.same r fr h) i && not (sym (k.same cut fc h) i)) ∙ sym (exact h) ∙ none h))
 
+  -- any other cut makes two parts of it
   pub two_parts : (s t u : S) (cut r inside outside : R) → KeepsRegions fits has s t → KeepsRegions fits has t u → fits s r → fits s cut → fits t inside → ((h : Header) → has t inside h ≡ (has s r h && has s cut h)) → HasSome has t inside → fits u outside → ((h : Header) → has u outside h ≡ (has t r h && not (has t cut h))) → HasSome has u outside → AreParts fits has s u cut r ((inside ∷ []) ++ outside ∷ [])
   two_parts s t u cut r inside outside k l fr fc fi exact_in some_in fo exact_out some_out =
       record {
@@ -153,6 +148,7 @@ module _ {S R : Type 0} (fits : S → R → Type 0) (has : S → R → Header �
     pub each : (tests : List (Header → Bool)) → All (IsClass fits has old tests) classes → All (IsClass fits has old tests) left × All (IsClass fits has s (tests ++ has old cut ∷ [])) parts
     pub count : (h : Header) → count_having has s parts h + count_having has old left h ≡ count_having has old classes h
 
+  -- before the first class
   split_none : (s : S) (cut : R) (classes : List R) → EachFits fits s classes → IsSplit s s cut classes classes []
   split_none s cut classes each =
       record {
@@ -163,6 +159,7 @@ module _ {S R : Type 0} (fits : S → R → Type 0) (has : S → R → Header �
         count = λ h. zero-add (count_having has s classes h);
       }
 
+  -- after one class more
   split_more : (old s t : S) (cut r : R) (classes left parts after : List R) → fits old cut → IsSplit old s cut classes (r ∷ left) parts → KeepsRegions fits has s t → HasParts fits has s t cut r parts after → IsSplit old t cut classes left after
   split_more old s t cut r classes left parts after fc so_far k new =
       record {
@@ -197,14 +194,17 @@ module _ {S R : Type 0} (fits : S → R → Type 0) (has : S → R → Header �
   split_start s cut classes left parts e p each =
       subst (λ l. IsSplit s s cut classes l parts) (sym e) (subst (λ l. IsSplit s s cut classes classes l) (sym p) (split_none s cut classes each))
 
+  -- the next class fits the store
   pub next_fits : (old s : S) (cut r : R) (classes left rest parts : List R) → IsSplit old s cut classes left parts → left ≡ r ∷ rest → fits s r
   next_fits old s cut r classes left rest parts so_far e =
       so_far.kept.fit r (All-head (fits old) r rest (subst (EachFits fits old) e so_far.left_fit))
 
+  -- one class more
   pub split_next : (old s t : S) (cut r : R) (classes left rest parts after : List R) → left ≡ r ∷ rest → fits old cut → IsSplit old s cut classes left parts → KeepsRegions fits has s t → HasParts fits has s t cut r parts after → IsSplit old t cut classes rest after
   split_next old s t cut r classes left rest parts after e fc so_far k new =
       split_more old s t cut r classes rest parts after fc (subst (λ l. IsSplit old s cut classes l parts) e so_far) k new
 
+  -- after the last class
   pub split_all : (old s : S) (cut : R) (classes left parts : List R) → IsSplit old s cut classes left parts → length left ≡ 0 → (tests : List (Header → Bool)) → AreClasses fits has old tests classes → AreClasses fits has s (tests ++ has old cut ∷ []) parts
   split_all old s cut classes [] parts split none tests are =
       record {
@@ -215,10 +215,12 @@ module _ {S R : Type 0} (fits : S → R → Type 0) (has : S → R → Header �
 
   -- ---- the classes of the first cuts
 
+  -- the classes of the first cuts, after calls that keep the regions
   pub record AreClassesOf (old s : S) (cuts classes : List R) : Type 0 where
     pub kept : KeepsRegions fits has old s
     pub are : AreClasses fits has s (tests_of has old cuts) classes
 
+  -- one cut more
   pub classes_more : (old s t : S) (cuts : List R) (cut : R) (classes parts : List R) → fits old cut → AreClassesOf old s cuts classes → KeepsRegions fits has s t → ((tests : List (Header → Bool)) → AreClasses fits has s tests classes → AreClasses fits has t (tests ++ has s cut ∷ []) parts) → AreClassesOf old t (cuts ++ cut ∷ []) parts
   classes_more old s t cuts cut classes parts fc so_far k step =
       record {
@@ -231,12 +233,13 @@ module _ {S R : Type 0} (fits : S → R → Type 0) (has : S → R → Header �
 
   -- ---- the one class of no cut
 
+  -- all valid headers are one class
   pub whole_class : (s : S) (r : R) → fits s r → ((h : Header) → has s r h ≡ is_valid_header h) → AreClasses fits has s [] (r ∷ [])
   whole_class s r fr exact =
       record {
         each = All-cons (IsClass fits has s []) r [] (record {
           fit = fr;
-          some = λ none. true≢false (sym first_valid ∙ sym (exact first_header) ∙ none first_header);
+          some = λ none. true≢false (sym zeros_valid ∙ sym (exact zeros) ∙ none zeros);
           only = λ h g p q. refl;
           all = λ h g p v alike. exact g ∙ v;
         }) (All-nil (IsClass fits has s []));

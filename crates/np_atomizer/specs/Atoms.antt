@@ -4,13 +4,9 @@ use Rattle.std.specs.List.{All, Any}
 use Rattle.np_space.specs.Header.{IsValid}
 use Rattle.np_space.specs.declared.headers.Header.{Header}
 use Rattle.np_region.specs.Keeping.{EachFits}
-use Rattle.np_atomizer.specs.Classes.{cuts_say, IsAlike, AreLeasts}
+use Rattle.np_space.specs.Classes.{cuts_say, IsAlike, AreLeasts}
 use Rattle.np_atomizer.specs.declared.atom_list.Atom.{Atom}
 use Rattle.np_atomizer.specs.declared.atom_list.Atoms.{Atoms}
-
--- the tests that the cuts are, as the store keeps them
-abbrev pub tests_of : {S R : Type 0} → (S → R → Header → Bool) → S → List R → List (Header → Bool)
-tests_of has s cuts = map (λ cut. has s cut) cuts
 
 -- the atoms, one after another
 abbrev pub atoms_in : {R : Type 0} → Atoms R → List (Atom R)

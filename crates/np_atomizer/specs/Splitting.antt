@@ -5,7 +5,7 @@ use Rattle.np_space.specs.Flag.{flag_number}
 use Rattle.np_space.specs.Header.{is_valid_header, IsValid, IsLeast}
 use Rattle.np_space.specs.declared.headers.Header.{Header}
 use Rattle.np_region.specs.Keeping.{EachFits}
-use Rattle.np_atomizer.specs.Classes.{IsAlike}
+use Rattle.np_space.specs.Classes.{IsAlike}
 use Rattle.np_atomizer.specs.declared.atom_list.Atom.{Atom}
 
 -- how many of the regions have the header
@@ -34,7 +34,7 @@ pub record AreParts {S R : Type 0} (fits : S → R → Type 0) (has : S → R �
   pub each : (tests : List (Header → Bool)) → IsClass fits has old tests region → All (IsClass fits has new (tests ++ has old cut ∷ [])) parts
   pub count : (h : Header) → count_having has new parts h ≡ flag_number (has old region h)
 
--- the parts of one region stand behind the others
+-- the parts of one region stand after the others
 pub record HasParts {S R : Type 0} (fits : S → R → Type 0) (has : S → R → Header → Bool) (old new : S) (cut region : R) (before after : List R) : Type 0 where
   pub more : List R
   pub is : after ≡ before ++ more

@@ -3,7 +3,7 @@
 ghost use Rattle.std.specs.Prelude.{◌≡◌, ◌<◌, [], Bool, false, IsTrue, IfOk, List, length, slice_index_or};
 ghost use Rattle.np_space.specs.Header.{IsValid};
 ghost use Rattle.np_space.specs.declared.headers.Header.{Header};
-ghost use Rattle.np_atomizer.specs.Classes.{IsAlike};
+ghost use Rattle.np_space.specs.Classes.{IsAlike};
 ghost use Rattle.np_atomizer.specs.Atoms.{atoms_in, regions_of, leasts_of, answers_of, CoverValid, AreAtoms};
 
 use np_region::Regions;

@@ -3,8 +3,8 @@
 ghost use Rattle.std.specs.Prelude.{◌≡◌, ◌∷◌, [], ◌++◌, Bool, IfOk, OnOk, List, map};
 ghost use Rattle.std.specs.List.{All};
 ghost use Rattle.np_space.specs.declared.headers.Header.{Header};
-ghost use Rattle.np_region.specs.Keeping.{KeepsRegions, EachFits};
-ghost use Rattle.np_atomizer.specs.Atoms.{tests_of, atoms_in, regions_of, AreAtoms};
+ghost use Rattle.np_region.specs.Keeping.{KeepsRegions, EachFits, tests_of};
+ghost use Rattle.np_atomizer.specs.Atoms.{atoms_in, regions_of, AreAtoms};
 ghost use Rattle.np_atomizer.specs.Splitting.{HasSome, AreClasses, HasParts, IsRead};
 
 use crate::atom_list::{Atom, Atoms};

@@ -2,8 +2,14 @@
 #![tactic(auto)]
 
 #[cfg(test)]
+mod atoms;
+#[cfg(test)]
 mod lines;
 #[cfg(test)]
 mod outside;
+#[cfg(test)]
+mod region;
+#[cfg(test)]
+mod space;
 #[cfg(test)]
 mod text;

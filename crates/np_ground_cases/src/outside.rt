@@ -1,10 +1,51 @@
 //! Shelves and sinks, in memory and real.
 
-use np_outside::{Failed, FileShelf, MemShelf, MemSink, ReadError, Shelf, Sink, StdSink, read_file, write_all};
+use np_outside::{
+    Failed, FileShelf, MemShelf, MemSink, ReadError, Shelf, Sink, StdSink, read_file, write_all,
+};
 use std::alloc::{AllocError, Global};
+use std::cell::{Cell, RefCell};
+use std::fmt::Display;
 use std::fs;
+use std::io::{self, ErrorKind};
 use std::process::Abort;
 use std::test::Fail;
+
+/// An output that takes one byte a call, and fails at each third call.
+struct OneByOne {
+    taken: RefCell<Vec<u8>>,
+    calls: Cell<u64>,
+}
+
+impl Print for OneByOne {
+    fn print<D: Display + Drop>(&self, _value: D) -> io::Result<()> {
+        Err(io::Error::from(ErrorKind::Unsupported))
+    }
+
+    fn println<D: Display + Drop>(&self, _value: D) -> io::Result<()> {
+        Err(io::Error::from(ErrorKind::Unsupported))
+    }
+
+    fn write_all(&self, _bytes: &[u8]) -> io::Result<()> {
+        Err(io::Error::from(ErrorKind::Unsupported))
+    }
+
+    fn write_some(&self, bytes: &[u8]) -> io::Result<usize> {
+        let calls = self.calls.get() % 3;
+        self.calls.set(calls + 1);
+        let Some(first) = bytes.first() else {
+            return Ok(0);
+        };
+        if calls == 2 {
+            return Err(io::Error::from(ErrorKind::WouldBlock));
+        }
+        match self.taken.try_borrow_mut() {
+            Ok(mut taken) => taken.push(*first)?,
+            Err(_) => return Err(io::Error::from(ErrorKind::Other)),
+        }
+        Ok(1)
+    }
+}
 
 /// A shelf with one file.
 fn shelf_of(alloc: Global, name: &[u8], bytes: &[u8]) -> Result<MemShelf, AllocError> {
@@ -185,6 +226,12 @@ fn real_files_are_read_and_written(rt: HostRuntime) -> Result<(), Fail> {
     assert_eq!(rt; shelf.read(&mut buf), Err(Failed));
     let read = read_file(rt.alloc(), &mut shelf, b"a.txt", 99)?;
     assert_eq!(rt; read.as_slice(), b"some text\n".as_slice());
+    let bytes = counting(rt.alloc(), 9_000)?;
+    fs::write(&rt, " two words ", bytes.as_slice())?;
+    let long = read_file(rt.alloc(), &mut shelf, b" two words ", 9_000)?;
+    assert_eq!(rt; long.as_slice(), bytes.as_slice());
+    let trimmed = read_file(rt.alloc(), &mut shelf, b"two words", 9_000);
+    assert_eq!(rt; trimmed.err(), Some(ReadError::Failed));
     for name in [b"b.txt".as_slice(), b"folder", b"\xff"] {
         let refused = read_file(rt.alloc(), &mut shelf, name, 99);
         assert_eq!(rt; refused.err(), Some(ReadError::Failed));
@@ -197,5 +244,24 @@ fn real_files_are_read_and_written(rt: HostRuntime) -> Result<(), Fail> {
     let mut sink = StdSink::new(&rt);
     write_all(&mut sink, &read)?;
     assert_eq!(rt; sink.write(b""), Ok(0));
+    Ok(())
+}
+
+#[test]
+fn standard_output_is_offered_the_rest(rt: HostRuntime) -> Result<(), Fail> {
+    let output = OneByOne {
+        taken: RefCell::new(Vec::new(rt.alloc())),
+        calls: Cell::new(0),
+    };
+    let mut sink = StdSink::new(&output);
+    assert_eq!(rt; sink.write(b"ab"), Ok(1));
+    assert_eq!(rt; sink.write(b"b"), Ok(1));
+    assert_eq!(rt; sink.write(b"c"), Err(Failed));
+    assert_eq!(rt; write_all(&mut sink, b"cd").is_ok(), true);
+    assert_eq!(rt; write_all(&mut sink, b"ef").is_ok(), false);
+    drop(sink);
+    let OneByOne { taken, calls: _ } = output;
+    let taken = taken.into_inner();
+    assert_eq!(rt; taken.as_slice(), b"abcd".as_slice());
     Ok(())
 }

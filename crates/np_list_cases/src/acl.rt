@@ -137,7 +137,11 @@ fn tcp_to(port: u16, dscp: u8) -> Header {
 fn the_first_match_decides(rt: HostRuntime) -> Result<(), Fail> {
     let alloc = rt.alloc();
     let mut list = List::new(alloc);
-    assert_eq!(rt; list.permits(&tcp_to(25, 0)), true, "a list without entries");
+    assert_eq!(rt;
+        list.permits(&tcp_to(25, 0)),
+        true,
+        "a list without entries"
+    );
     list.push(entry(alloc, false, 6, &[(25, 25), (80, 90), (443, 443)])?)?;
     list.push(entry(alloc, true, 6, &[(0, 1023)])?)?;
     let mut urgent = Entry::any(alloc, true)?;
@@ -146,7 +150,11 @@ fn the_first_match_decides(rt: HostRuntime) -> Result<(), Fail> {
     let copy = list.copy(alloc)?;
     for (port, dscp, want) in ANSWERS {
         let header = tcp_to(port, dscp);
-        assert_eq!(rt; list.permits(&header), want, "port {port}, code point {dscp}");
+        assert_eq!(rt;
+            list.permits(&header),
+            want,
+            "port {port}, code point {dscp}"
+        );
         assert_eq!(rt; copy.permits(&header), want, "the copy at port {port}");
     }
     assert_eq!(rt; copy.as_slice().len(), 3);
@@ -178,7 +186,10 @@ fn an_entry_without_words_tests_nothing(rt: HostRuntime) -> Result<(), Fail> {
     ] {
         assert_eq!(rt; spans.has(number), has);
         match spans.into_vec() {
-            Ok(spans) => assert_eq!(rt; spans.as_slice().iter().any(|part| part.span().has(number)), has),
+            Ok(spans) => assert_eq!(rt;
+                spans.as_slice().iter().any(|part| part.span().has(number)),
+                has
+            ),
             Err(_) => panic!(rt; "no memory for spans"),
         }
     }
@@ -192,14 +203,26 @@ fn words_of_the_tables(rt: HostRuntime) {
         assert_eq!(rt; protocol_of(word.as_bytes()), want, "{word}");
     }
     for (word, tcp, udp) in PORTS {
-        assert_eq!(rt; port_of(word.as_bytes(), PortNames::Tcp), tcp, "{word} of TCP");
-        assert_eq!(rt; port_of(word.as_bytes(), PortNames::Udp), udp, "{word} of UDP");
+        assert_eq!(rt;
+            port_of(word.as_bytes(), PortNames::Tcp),
+            tcp,
+            "{word} of TCP"
+        );
+        assert_eq!(rt;
+            port_of(word.as_bytes(), PortNames::Udp),
+            udp,
+            "{word} of UDP"
+        );
     }
     for (word, want) in MESSAGES {
         assert_eq!(rt; icmp_of(word.as_bytes()), want, "{word}");
     }
     for (word, dscp, precedence) in CODE_POINTS {
         assert_eq!(rt; dscp_of(word.as_bytes()), dscp, "{word} as a code point");
-        assert_eq!(rt; precedence_of(word.as_bytes()), precedence, "{word} as a precedence");
+        assert_eq!(rt;
+            precedence_of(word.as_bytes()),
+            precedence,
+            "{word} as a precedence"
+        );
     }
 }

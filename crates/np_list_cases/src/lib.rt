@@ -3,3 +3,5 @@
 
 #[cfg(test)]
 mod acl;
+#[cfg(test)]
+mod acl_read;

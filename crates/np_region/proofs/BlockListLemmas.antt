@@ -8,7 +8,7 @@ use Rattle.std.proofs.lemmas.List.Elements.{All-nil, All-push, All-append}
 use Rattle.std.proofs.lemmas.List.Folds.{Any-from_list_any}
 use Rattle.np_space.specs.Flag.{flag_number}
 use Rattle.np_space.specs.Header.{is_valid_header, IsLeast, header_le}
-use Rattle.np_space.specs.Block.{block_has, block_numbers, anywhere, valid_table, count_having, any_has, AreDisjoint}
+use Rattle.np_space.specs.Block.{block_has, block_numbers, valid_table, count_having, any_has, AreDisjoint}
 use Rattle.np_space.specs.declared.headers.Header.{Header}
 use Rattle.np_space.specs.declared.patterns.Ternary.{Ternary}
 use Rattle.np_space.specs.declared.spans.Span.{Span}
@@ -22,9 +22,11 @@ use Rattle.np_region.specs.BlockLists.{LiesInValidBlock, IsBlockList, IsListOf, 
 
 -- ---- the blocks of the valid headers have no header but valid ones
 
+-- every address
 abbrev any_number : Ternary
 any_number = record { value = 0; wild = 0xffff_ffff; cleared = refl; value_width = lit< tt; wild_width = lit< tt }
 
+-- the numbers between two bounds
 abbrev numbers : (low high : ℕ) → low ≤ high → high < 2 ^ 16 → Span
 numbers low high l w = record { low = low; high = high; ordered = l; width = w }
 
@@ -38,31 +40,37 @@ blocks_of first last most flags o p w f =
       a = numbers 0 most (omega arith) w;
       b = numbers 0 most (omega arith) w;
       est = numbers 0 flags (omega arith) (omega arith);
+      dscp = numbers 0 63 (omega arith) (omega arith);
       proto_width = p;
       est_width = f;
+      dscp_width = omega arith;
     }
 
-numbered : (first last most flags : ℕ) (o : first ≤ last) (p : last ≤ 255) (w : most < 2 ^ 16) (f : flags ≤ 1) → block_numbers (blocks_of first last most flags o p w f) ≡ anywhere first last most flags
-numbered first last most flags o p w f = refl
-
+-- protocol 0
 abbrev zeroth : Block
 zeroth = blocks_of 0 0 0 0 (omega arith) (omega arith) (lit< tt) (omega arith)
 
+-- ICMP
 abbrev icmp : Block
 icmp = blocks_of 1 1 255 0 (omega arith) (omega arith) (lit< tt) (omega arith)
 
+-- the protocols from 2 to 5
 abbrev low : Block
 low = blocks_of 2 5 0 0 (omega arith) (omega arith) (lit< tt) (omega arith)
 
+-- TCP
 abbrev tcp : Block
 tcp = blocks_of 6 6 65535 1 (omega arith) (omega arith) (lit< tt) (omega arith)
 
+-- the protocols from 7 to 16
 abbrev middle : Block
 middle = blocks_of 7 16 0 0 (omega arith) (omega arith) (lit< tt) (omega arith)
 
+-- UDP
 abbrev udp : Block
 udp = blocks_of 17 17 65535 0 (omega arith) (omega arith) (lit< tt) (omega arith)
 
+-- the protocols from 18 on
 abbrev high : Block
 high = blocks_of 18 255 0 0 (omega arith) (omega arith) (lit< tt) (omega arith)
 
@@ -86,6 +94,7 @@ listed_valid v (suc (suc (suc (suc (suc zero))))) l e h has = counted_valid (zer
 listed_valid v (suc (suc (suc (suc (suc (suc zero)))))) l e h has = counted_valid (zeroth ∷ icmp ∷ low ∷ tcp ∷ middle ∷ udp ∷ v ∷ []) h 6 v (valid_once zeroth icmp low tcp middle udp v refl refl refl refl refl refl (sym e)) (omega arith) refl has
 listed_valid v (suc (suc (suc (suc (suc (suc (suc k))))))) l e h has = absurd (omega arith)
 
+-- so has a block that lies in one of them
 pub lies_valid : (b : Block) → LiesInValidBlock b → (h : Header) → block_has b h ≡ true → is_valid_header h ≡ true
 lies_valid b lies h has = listed_valid lies.whole lies.listed.0 lies.listed.1 lies.listed.2 h (lies.inside h has)
 
@@ -97,6 +106,7 @@ inside_valid blocks inside h has =
     let some = Any-from_list_any (λ b. block_has b h) blocks has in
     lies_valid (get_or blocks some.0 some.1) (inside some.0 some.1 some.2) h (ap (λ b. block_has b h) some.3 ∙ some.4)
 
+-- disjoint blocks that lie in them are a region
 pub block_list : (blocks : List Block) → AreDisjoint blocks → All LiesInValidBlock blocks → IsBlockList blocks
 block_list blocks disjoint inside = record { disjoint = disjoint; inside = inside; only_valid = inside_valid blocks inside }
 
@@ -118,12 +128,15 @@ made more test old new added empty e =
     zero_plus : (n : ℕ) → 0 + n ≡ n
     zero_plus n = omega arith
 
+-- another test with the same answers
 pub relisted : (s t : Header → Bool) (blocks : List Block) → IsListOf s blocks → ((h : Header) → s h ≡ t h) → IsListOf t blocks
 relisted s t blocks l e = record { list = l.list; exact = λ h. l.exact h ∙ e h }
 
+-- nothing is added
 pub added_none : (more : Header → ℕ) (xs : List Block) → ((h : Header) → more h ≡ 0) → HasAdded more xs xs
 added_none more xs e = record { count = λ h. omega (arith, e h); inside = λ all. all }
 
+-- what two steps add
 pub added_more : (f g k : Header → ℕ) (xs ys zs : List Block) → HasAdded f xs ys → HasAdded g ys zs → ((h : Header) → k h ≡ f h + g h) → HasAdded k xs zs
 added_more f g k xs ys zs a b e = record { count = λ h. omega (arith, a.count h, b.count h, e h); inside = λ all. b.inside (a.inside all) }
 
@@ -133,20 +146,24 @@ counted blocks list h = count_is_any blocks list.disjoint h
 
 -- ---- flags and products
 
+-- the product of two flags
 pub flag_times : (s t : Bool) → flag_number s * flag_number t ≡ flag_number (s && t)
 flag_times false t = omega arith
 flag_times true t = omega arith
 
+-- a flag times a count and a flag
 flag_spread : (s t : Bool) (n : ℕ) → flag_number s * (n + flag_number t) ≡ flag_number s * n + flag_number (t && s)
 flag_spread false false n = omega arith
 flag_spread false true n = omega arith
 flag_spread true false n = omega arith
 flag_spread true true n = omega arith
 
+-- a count and a flag, times a number
 plus_flag_times : (n m : ℕ) (s : Bool) → (n + flag_number s) * m ≡ n * m + flag_number s * m
 plus_flag_times n m false = grind arith
 plus_flag_times n m true = grind arith
 
+-- two conditions may change places
 pub and_turned : (s t : Bool) → (s && t) ≡ (t && s)
 and_turned false false = refl
 and_turned false true = refl
@@ -179,6 +196,7 @@ common_of_more b bs os xs ys zs so_far step =
     added_more (λ h. count_having bs h * count_having os h) (λ h. flag_number (block_has b h) * count_having os h) (λ h. count_having (bs ++ b ∷ []) h * count_having os h) xs ys zs so_far step
     (λ h. ap (λ n. n * count_having os h) (count_push bs b h) ∙ plus_flag_times (count_having bs h) (count_having os h) (block_has b h))
 
+-- the product of two counts is that of the common headers
 pub common_count : (xs ys : List Block) → IsBlockList xs → IsBlockList ys → (h : Header) → count_having ys h * count_having xs h ≡ flag_number (any_has xs h && any_has ys h)
 common_count xs ys first second h =
     (λ i. counted ys second h i * counted xs first h i) ∙ flag_times (any_has ys h) (any_has xs h) ∙ ap flag_number (and_turned (any_has ys h) (any_has xs h))
@@ -199,6 +217,7 @@ minus_added x y xs rest lies once =
     by true t h e p = refl
     by false t h e p = absurd (omega arith)
 
+-- what one more block leaves
 pub without_more : (x y : Block) (seen xs ys zs : List Block) → HasAdded (λ h. count_having seen h * flag_number (not (block_has y h))) xs ys → HasAdded (λ h. flag_number (block_has x h && not (block_has y h))) ys zs → HasAdded (λ h. count_having (seen ++ x ∷ []) h * flag_number (not (block_has y h))) xs zs
 without_more x y seen xs ys zs so_far step =
     added_more (λ h. count_having seen h * flag_number (not (block_has y h))) (λ h. flag_number (block_has x h && not (block_has y h))) (λ h. count_having (seen ++ x ∷ []) h * flag_number (not (block_has y h))) xs ys zs so_far step
@@ -207,6 +226,7 @@ without_more x y seen xs ys zs so_far step =
     ∙ plus_flag_times (count_having seen h) (flag_number (not (block_has y h))) (block_has x h)
     ∙ ap (λ n. count_having seen h * flag_number (not (block_has y h)) + n) (flag_times (block_has x h) (not (block_has y h))))
 
+-- the counts of what a block leaves
 pub without_count : (xs : List Block) (y : Block) → IsBlockList xs → (h : Header) → count_having xs h * flag_number (not (block_has y h)) ≡ flag_number (any_has xs h && not (block_has y h))
 without_count xs y list h = ap (λ n. n * flag_number (not (block_has y h))) (counted xs list h) ∙ flag_times (any_has xs h) (not (block_has y h))
 
@@ -230,6 +250,7 @@ difference_more xs seen rest new y so_far step =
     pushed : (h : Header) → any_has (seen ++ y ∷ []) h ≡ (any_has seen h || block_has y h)
     pushed h = any_append seen (y ∷ []) h ∙ ap (λ t. any_has seen h || t) (last h)
 
+-- no block takes anything out
 pub difference_none : (xs : List Block) → IsBlockList xs → IsListOf (λ h. any_has xs h && not (any_has [] h)) xs
 difference_none xs list = record { list = list; exact = λ h. sym (and_true (any_has xs h)) }
 
@@ -269,6 +290,7 @@ nothing (b ∷ bs) none = absurd (true≢false (sym (or_left (block_has b (least
 
 -- ---- the least header
 
+-- another test with the same answers has the same least header
 pub least_same : (s t : Header → Bool) (x : Header) → IsLeast s x → ((h : Header) → s h ≡ t h) → IsLeast t x
 least_same s t x l e = record { has = sym (e x) ∙ l.has; least = λ h has. l.least h (e h ∙ has) }
 

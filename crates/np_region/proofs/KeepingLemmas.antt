@@ -1,12 +1,9 @@
--- Calls that keep the regions of a store, one after another, and what becomes of lists of regions.
-use Rattle.std.proofs.Common.{◌≡◌, Bool, true, false, List, [], ◌∷◌, ◌++◌, get_or, refl, sym, ◌∙◌, ap}
-use Rattle.std.proofs.Math.Bool.{or_assoc}
-use Rattle.std.specs.Prelude.{◌&&◌, ◌||◌}
-use Rattle.std.proofs.lemmas.List.Elements.{All-push, All-head, All-tail}
+-- Calls that keep the regions of a store, one after another, and lists of regions that fit it.
+use Rattle.std.proofs.Common.{List, [], ◌∷◌, ◌++◌, get_or, refl, ◌∙◌}
+use Rattle.std.specs.Prelude.{Bool}
+use Rattle.std.proofs.lemmas.List.Elements.{All-push}
 use Rattle.np_space.specs.declared.headers.Header.{Header}
-use Rattle.std.proofs.lemmas.Bool.{and_right}
-use Rattle.np_space.proofs.FlagLemmas.{or_false, and_true}
-use Rattle.np_region.specs.Keeping.{KeepsRegions, EachFits, some_has_header}
+use Rattle.np_region.specs.Keeping.{KeepsRegions, EachFits}
 
 module _ {S R : Type 0} (fits : S → R → Type 0) (has : S → R → Header → Bool) where
   -- a store that is left as it is keeps its regions
@@ -22,47 +19,6 @@ module _ {S R : Type 0} (fits : S → R → Type 0) (has : S → R → Header �
   pub each_fits_kept : (s t : S) (xs : List R) → KeepsRegions fits has s t → EachFits fits s xs → EachFits fits t xs
   each_fits_kept s t xs k each = λ i d l. k.fit (get_or xs i d) (each i d l)
 
-  -- and some of them has the headers that some of them had
-  pub some_has_kept : (s t : S) (xs : List R) → KeepsRegions fits has s t → EachFits fits s xs → (h : Header) → some_has_header has t xs h ≡ some_has_header has s xs h
-  some_has_kept s t [] k each h = refl
-  some_has_kept s t (x ∷ xs) k each h =
-      λ i. k.same x (All-head (fits s) x xs each) h i || some_has_kept s t xs k (All-tail (fits s) x xs each) h i
-
   -- one more region that fits
   pub each_fits_more : (s : S) (xs : List R) (x : R) → EachFits fits s xs → fits s x → EachFits fits s (xs ++ x ∷ [])
   each_fits_more s xs x each f = All-push (fits s) xs x each f
-
-  -- some of the regions with one more has the headers of either
-  pub some_has_more : (s : S) (xs : List R) (x : R) (h : Header) → some_has_header has s (xs ++ x ∷ []) h ≡ (some_has_header has s xs h || has s x h)
-  some_has_more s [] x h = or_false (has s x h)
-  some_has_more s (y ∷ xs) x h = ap (λ b. has s y h || b) (some_has_more s xs x h) ∙ sym (or_assoc (has s y h) (some_has_header has s xs h) (has s x h))
-
-  -- Between two stores the regions are kept, and the region has what some of the regions had in the
-  -- first.
-  pub record HasThoseOf (old new : S) (xs : List R) (x : R) : Type 0 where
-    pub kept : KeepsRegions fits has old new
-    pub fit : fits new x
-    pub exact : (h : Header) → has new x h ≡ some_has_header has old xs h
-
-  -- Between two stores the regions are kept, and some of the new ones have what some of the old ones had
-  -- of a third.
-  pub record HasCommon (old new : S) (cut : R) (xs zs : List R) : Type 0 where
-    pub kept : KeepsRegions fits has old new
-    pub fit : EachFits fits new zs
-    pub exact : (h : Header) → some_has_header has new zs h ≡ (some_has_header has old xs h && has old cut h)
-
-  pub common_more : (old mid new : S) (cut : R) (xs zs : List R) (x z : R) → HasCommon old mid cut xs zs → fits old x → fits old cut → KeepsRegions fits has mid new → fits new z → ((h : Header) → has new z h ≡ (has mid x h && has mid cut h)) → HasCommon old new cut (xs ++ x ∷ []) (zs ++ z ∷ [])
-  common_more old mid new cut xs zs x z so_far fx fc k fz exact =
-      record {
-        kept = keeps_chained old mid new so_far.kept k;
-        fit = each_fits_more new zs z (each_fits_kept mid new zs k so_far.fit) fz;
-        exact = λ h.
-            some_has_more new zs z h
-            ∙ (λ i. (some_has_kept mid new zs k so_far.fit h ∙ so_far.exact h) i || (exact h ∙ (λ j. so_far.kept.same x fx h j && so_far.kept.same cut fc h j)) i)
-            ∙ spread (some_has_header has old xs h) (has old x h) (has old cut h)
-            ∙ ap (λ b. b && has old cut h) (sym (some_has_more old xs x h));
-      }
-    where
-      spread : (a b c : Bool) → ((a && c) || (b && c)) ≡ ((a || b) && c)
-      spread a b true = (λ i. and_true a i || and_true b i) ∙ sym (and_true (a || b))
-      spread a b false = (λ i. and_right a false refl i || and_right b false refl i) ∙ sym (and_right (a || b) false refl)

@@ -1,5 +1,5 @@
 -- What a store of regions keeps in each call, and what is said of several of its regions.
-use Rattle.std.specs.Prelude.{◌≡◌, Bool, List}
+use Rattle.std.specs.Prelude.{◌≡◌, Bool, List, map}
 use Rattle.std.specs.List.{All, list_any}
 use Rattle.np_space.specs.declared.headers.Header.{Header}
 
@@ -11,6 +11,10 @@ pub record KeepsRegions {S R : Type 0} (fits : S → R → Type 0) (has : S → 
 -- each of the regions fits the store
 abbrev pub EachFits : {S R : Type 0} → (S → R → Type 0) → S → List R → Type 0
 EachFits fits s xs = All (fits s) xs
+
+-- the tests that the regions are, as the store keeps them
+abbrev pub tests_of : {S R : Type 0} → (S → R → Header → Bool) → S → List R → List (Header → Bool)
+tests_of has s xs = map (λ x. has s x) xs
 
 -- some of the regions has the header
 abbrev pub some_has_header : {S R : Type 0} → (S → R → Header → Bool) → S → List R → Header → Bool

@@ -8,8 +8,3 @@ mod regions;
 
 pub use block_lists::{BlockList, BlockLists};
 pub use regions::Regions;
-
-#[cfg(test)]
-mod laws;
-#[cfg(test)]
-mod tests;

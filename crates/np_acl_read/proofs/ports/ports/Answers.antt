@@ -12,5 +12,5 @@ returns-in_err-first-clause-err c = search rules
 pub loop-left-init : goal.loop-left-init
 loop-left-init c =
     let items : c.push.new.self.items ≡ c.in_ok-first.first ∷ [] = grind (arith, common_steps) in
-    let start = ports_start c.args.tcp (texts c.args.words.now) c.in_ok-first.first (texts c.in_ok-first.left.now) c.in_ok-first.ensures in
+    let start = ports_start c.args.names (texts c.args.words.now) c.in_ok-first.first (texts c.in_ok-first.left.now) c.in_ok-first.ensures in
     rw items start

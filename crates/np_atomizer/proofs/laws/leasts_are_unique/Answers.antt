@@ -1,5 +1,0 @@
-use Rattle.np_atomizer.proofs.ClassLaws.{leasts_are_unique}
-use Rattle.np_atomizer.proofs.laws.leasts_are_unique.Goals as goal
-
-pub returns : goal.returns
-returns c = leasts_are_unique

@@ -1,2 +1,7 @@
 //! Tests of the layer of networks: predicates, networks and their texts.
 #![tactic(auto)]
+
+#[cfg(test)]
+mod net;
+#[cfg(test)]
+mod pred;

@@ -10,6 +10,7 @@ pub AreSourcesPrefixes-more : (areas : AreaList) (name : List ℕ) (sources : Li
 AreSourcesPrefixes-more [] name sources h new = (new, tt)
 AreSourcesPrefixes-more (a ∷ areas) name sources h new = (h.0, AreSourcesPrefixes-more areas name sources h.1 new)
 
+-- the first entry by its test, or one after it
 found_by_cases : (b : Bool) (own : List Ternary) (rest : Option (List Ternary)) (sources : List Ternary) → are_prefixes own ≡ true → (rest ≡ Some sources → are_prefixes sources ≡ true) → cond b (Some own) rest ≡ Some sources → are_prefixes sources ≡ true
 found_by_cases true own rest sources here there e = let same : own ≡ sources = cc in rw (← same) here
 found_by_cases false own rest sources here there e = there e

@@ -2,6 +2,7 @@
 use Rattle.std.proofs.Common.{◌≡◌, ℕ, List, sym, subst, ap, ◌∙◌}
 use Rattle.np_space.specs.declared.patterns.Ternary.{Ternary}
 use Rattle.np_space.specs.declared.spans.Span.{Span}
+use Rattle.np_pred.specs.declared.dscp.DscpSpan.{DscpSpan}
 use Rattle.np_pred.specs.declared.predicate.Pred.{Pred}
 use Rattle.np_pred.specs.declared.predicate.Pred.TheVariants as pred
 use Rattle.np_pred.specs.declared.predicate.Pred.TheOpen as level
@@ -37,6 +38,9 @@ module _ (A : Type 0) (step : level.Pred-F A → A) where
   pub fold-IcmpCode : (x : ℕ) → fold-Pred A step (pred.IcmpCode x) ≡ step (level.IcmpCode x)
   fold-IcmpCode x = ap (fold-Pred A step) (sym (pred.rolls-IcmpCode x)) ∙ fold-roll-Pred A step (level.IcmpCode x)
 
+  pub fold-Dscp : (x : DscpSpan) → fold-Pred A step (pred.Dscp x) ≡ step (level.Dscp x)
+  fold-Dscp x = ap (fold-Pred A step) (sym (pred.rolls-Dscp x)) ∙ fold-roll-Pred A step (level.Dscp x)
+
   pub fold-Established : fold-Pred A step pred.Established ≡ step level.Established
   fold-Established = ap (fold-Pred A step) (sym pred.rolls-Established) ∙ fold-roll-Pred A step level.Established
 
@@ -60,15 +64,18 @@ pub record IsInductive (P : Pred → Type 0) : Type 0 where
   pub at-DstPort : (x : Span) → P (pred.DstPort x)
   pub at-IcmpType : (x : ℕ) → P (pred.IcmpType x)
   pub at-IcmpCode : (x : ℕ) → P (pred.IcmpCode x)
+  pub at-Dscp : (x : DscpSpan) → P (pred.Dscp x)
   pub at-Established : P pred.Established
   pub at-Not : (p : Pred) → P p → P (pred.Not p)
   pub at-And : (p q : Pred) → P p → P q → P (pred.And p q)
   pub at-Or : (p q : Pred) → P p → P q → P (pred.Or p q)
 
 module _ (P : Pred → Type 0) (h : IsInductive P) where
+  -- a predicate with its fact
   abbrev Proved : Type 0
   Proved = (p : Pred) × P p
 
+  -- one level, whose operands have their facts
   at_level : (y : level.Pred-F Proved) → P (roll-Pred (map-Pred Proved Pred (λ e. e.0) y))
   at_level level.Any = subst P (sym pred.rolls-Any) h.at-Any
   at_level level.Nothing = subst P (sym pred.rolls-Nothing) h.at-Nothing
@@ -79,6 +86,7 @@ module _ (P : Pred → Type 0) (h : IsInductive P) where
   at_level (level.DstPort x) = subst P (sym (pred.rolls-DstPort x)) (h.at-DstPort x)
   at_level (level.IcmpType x) = subst P (sym (pred.rolls-IcmpType x)) (h.at-IcmpType x)
   at_level (level.IcmpCode x) = subst P (sym (pred.rolls-IcmpCode x)) (h.at-IcmpCode x)
+  at_level (level.Dscp x) = subst P (sym (pred.rolls-Dscp x)) (h.at-Dscp x)
   at_level level.Established = subst P (sym pred.rolls-Established) h.at-Established
   at_level (level.Not p) = subst P (sym (pred.rolls-Not p.0)) (h.at-Not p.0 p.1)
   at_level (level.And p q) = subst P (sym (pred.rolls-And p.0 q.0)) (h.at-And p.0 q.0 p.1 q.1)

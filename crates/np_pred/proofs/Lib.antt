@@ -1,8 +1,9 @@
 pub mod AreaLaws
-pub mod MadeLaws
+pub mod DscpLaws
 pub mod PatternLaws
-pub mod PortLaws
+pub mod BoundsLaws
 pub mod ReadLaws
+pub mod FaultLaws
 pub mod Induction
 pub mod CanonicalLaws
 pub mod TextBackLaws

@@ -8,20 +8,25 @@ use Rattle.np_text.specs.Addresses.{prefix_of, front_bits}
 use Rattle.np_text.specs.Numbers.{number_of}
 use Rattle.np_text.proofs.NumberLaws.{number_of-le}
 use Rattle.np_space.specs.declared.patterns.Ternary.{Ternary}
-use Rattle.np_pred.specs.Patterns.{is_prefix, are_prefixes, pattern_of, patterns_of, prefix_text, addresses_text}
+use Rattle.np_space.specs.Patterns.{is_prefix}
+use Rattle.np_pred.specs.Patterns.{are_prefixes, pattern_of, patterns_of, prefix_text, addresses_text}
 
+-- after an address and a slash
 length_read : (o : Option ℕ) (a : ℕ) (p : ℕ × ℕ) → ((n : ℕ) → o ≡ Some n → n ≤ 32) → option_map (λ n. (front_bits a n, n)) o ≡ Some p → p.1 ≤ 32
 length_read None a p h e = cc
 length_read (Some n) a p h e = let same : n ≡ p.1 = ap (λ q. q.1) (same_Some _ _ e) in let le = h n refl in omega arith
 
+-- with a length
 front_read : (o : Option ℕ) (size : List ℕ) (p : ℕ × ℕ) → option_and_then (λ a. option_map (λ n. (front_bits a n, n)) (number_of size 32)) o ≡ Some p → p.1 ≤ 32
 front_read None size p e = cc
 front_read (Some a) size p e = length_read (number_of size 32) a p (λ n f. number_of-le size 32 n (sym f)) e
 
+-- without a length
 whole_read : (o : Option ℕ) (p : ℕ × ℕ) → option_map (λ a. (a, 32)) o ≡ Some p → p.1 ≤ 32
 whole_read None p e = cc
 whole_read (Some a) p e = let same : 32 ≡ p.1 = ap (λ q. q.1) (same_Some _ _ e) in omega arith
 
+-- with a length or without
 either_read : (b : Bool) (x y : Option (ℕ × ℕ)) (p : ℕ × ℕ) → (x ≡ Some p → p.1 ≤ 32) → (y ≡ Some p → p.1 ≤ 32) → cond b x y ≡ Some p → p.1 ≤ 32
 either_read true x y p f g e = f e
 either_read false x y p f g e = g e
@@ -33,25 +38,31 @@ prefix_of-length word p e = either_read _ _ _ p (front_read _ _ p) (whole_read _
 
 -- ---- reading one word after another
 
+-- the patterns so far, and those that are read
 abbrev pub with_front : List Ternary → Option (List Ternary) → Option (List Ternary)
 with_front front read = option_map (λ ps. front ++ ps) read
 
+-- before the first
 pub with_front-none : (read : Option (List Ternary)) → with_front [] read ≡ read
 with_front-none None = refl
 with_front-none (Some ps) = refl
 
+-- one more pattern
 pub with_front-next : (front : List Ternary) (p : Ternary) (word : List ℕ) (words : List (List ℕ)) → pattern_of word ≡ Some p → with_front (front ++ p ∷ []) (patterns_of words) ≡ with_front front (patterns_of (word ∷ words))
 with_front-next front p word words e = rw e (next front p (patterns_of words)) where
   next : (front : List Ternary) (p : Ternary) (read : Option (List Ternary)) → with_front (front ++ p ∷ []) read ≡ with_front front (option_map (λ ps. p ∷ ps) read)
   next front p None = refl
   next front p (Some ps) = ap (λ l. Some l) (append_assoc front (p ∷ []) ps)
 
+-- a word that is no prefix
 pub with_front-fault : (front : List Ternary) (word : List ℕ) (words : List (List ℕ)) → pattern_of word ≡ None → with_front front (patterns_of (word ∷ words)) ≡ None
 with_front-fault front word words e = rw e refl
 
+-- the last pattern
 pub with_front-last : (front : List Ternary) (p : Ternary) (word : List ℕ) → pattern_of word ≡ Some p → with_front front (patterns_of (word ∷ [])) ≡ Some (front ++ p ∷ [])
 with_front-last front p word e = rw e refl
 
+-- one more prefix
 pub are_prefixes-push : (ps : List Ternary) (p : Ternary) → are_prefixes ps ≡ true → is_prefix p ≡ true → are_prefixes (ps ++ p ∷ []) ≡ true
 are_prefixes-push [] p h new = rw new refl
 are_prefixes-push (q ∷ ps) p h new = by_cases (is_prefix q) (are_prefixes ps) h (are_prefixes-push ps p) new where
@@ -61,10 +72,12 @@ are_prefixes-push (q ∷ ps) p h new = by_cases (is_prefix q) (are_prefixes ps) 
 
 -- ---- the text of a list
 
+-- joined, each after the byte but for the first
 pub join_with_byte-flat_map : (c : ℕ) (x : List ℕ) (xs : List (List ℕ)) → join_with_byte c (x ∷ xs) ≡ x ++ flat_map (λ y. c ∷ y) xs
 join_with_byte-flat_map c x [] = sym (append-nil x)
 join_with_byte-flat_map c x (y ∷ xs) = ap (λ l. x ++ (c ∷ l)) (join_with_byte-flat_map c y xs)
 
+-- the word of some prefixes
 pub addresses_text-some : (p : Ternary) (ps : List Ternary) → addresses_text (p ∷ ps) ≡ prefix_text p ++ flat_map (λ q. 44 ∷ prefix_text q) ps
 unfolding addresses_text
 addresses_text-some p ps = join_with_byte-flat_map 44 (prefix_text p) (map prefix_text ps) ∙ ap (λ l. prefix_text p ++ l) (over ps) where
@@ -72,9 +85,11 @@ addresses_text-some p ps = join_with_byte-flat_map 44 (prefix_text p) (map prefi
   over [] = refl
   over (q ∷ ps) = ap (λ l. 44 ∷ (prefix_text q ++ l)) (over ps)
 
+-- the same of a list that is known to be these
 pub addresses_text-of : (patterns rest : List Ternary) (p : Ternary) → patterns ≡ p ∷ rest → addresses_text patterns ≡ prefix_text p ++ flat_map (λ q. 44 ∷ prefix_text q) rest
 addresses_text-of patterns rest p e = rw e (addresses_text-some p rest)
 
+-- the word of no prefix
 pub addresses_text-none : (patterns : List Ternary) → length patterns < 1 → addresses_text patterns ≡ codes "none"
 unfolding addresses_text
 addresses_text-none [] h = refl
@@ -88,6 +103,7 @@ flat_map-split f (y ∷ ys) (suc i) x lt e =
     let rest = rw (add-one i) at (flat_map-split f ys i x (omega arith) e) in
     rw (add-one (suc i)) (ap (λ l. f y ++ l) rest ∙ sym (append_assoc (f y) (flat_map f (take i ys)) (f x ++ flat_map f (drop (suc i) ys))))
 
+-- the word by the first item and the rest
 pub addresses_text-first : (patterns : List Ternary) (p : Ternary) → 1 ≤ length patterns → p ≡ get_or patterns 0 p → addresses_text patterns ≡ prefix_text p ++ flat_map (λ q. 44 ∷ prefix_text q) (take (length patterns - 1) (drop 1 patterns))
 addresses_text-first [] p some e = absurd (omega arith)
 addresses_text-first (q ∷ qs) p some e =

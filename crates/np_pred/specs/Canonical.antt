@@ -3,9 +3,10 @@ use Rattle.std.specs.Prelude.{ℕ, ◌==◌, List, [], ◌∷◌, ◌++◌, code
 use Rattle.std.specs.Fmt.{decimal}
 use Rattle.std.specs.List.{join_with_byte}
 use Rattle.np_pred.specs.declared.predicate.Pred.{Pred}
-use Rattle.np_pred.specs.declared.predicate.Pred.TheOpen.{Pred-F, Any, Nothing, Proto, Src, Dst, SrcPort, DstPort, IcmpType, IcmpCode, Established, Not, And, Or}
+use Rattle.np_pred.specs.declared.predicate.Pred.TheOpen.{Pred-F, Any, Nothing, Proto, Src, Dst, SrcPort, DstPort, IcmpType, IcmpCode, Dscp, Established, Not, And, Or}
 use Rattle.np_pred.specs.declared.predicate.Pred.TheFolds.{fold-Pred}
 use Rattle.np_pred.specs.Patterns.{addresses_text}
+use Rattle.np_pred.specs.Dscp.{dscp_text}
 use Rattle.np_pred.specs.Ports.{ports_text}
 
 -- the words of a protocol: three have a name
@@ -26,6 +27,7 @@ words_step (SrcPort ports) = codes "sport" ∷ ports_text ports ∷ []
 words_step (DstPort ports) = codes "dport" ∷ ports_text ports ∷ []
 words_step (IcmpType n) = codes "type" ∷ decimal n ∷ []
 words_step (IcmpCode n) = codes "code" ∷ decimal n ∷ []
+words_step (Dscp values) = codes "dscp" ∷ dscp_text values ∷ []
 words_step Established = codes "established" ∷ []
 words_step (Not p) = codes "not" ∷ p
 words_step (And p q) = codes "and" ∷ (p ++ q)
@@ -50,6 +52,7 @@ written_step (SrcPort ports) = codes "sport " ++ ports_text ports
 written_step (DstPort ports) = codes "dport " ++ ports_text ports
 written_step (IcmpType n) = codes "type " ++ decimal n
 written_step (IcmpCode n) = codes "code " ++ decimal n
+written_step (Dscp values) = codes "dscp " ++ dscp_text values
 written_step Established = codes "established"
 written_step (Not p) = codes "not " ++ p
 written_step (And p q) = codes "and " ++ (p ++ (32 ∷ [] ++ q))

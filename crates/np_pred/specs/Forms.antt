@@ -1,7 +1,7 @@
 -- What a predicate's parts are: prefixes, numbers of a byte, and how deep it nests.
 use Rattle.std.specs.Prelude.{ℕ, ◌+◌, ◌≤◌, max, Bool, true, ◌&&◌, nat_lt, IsTrue}
 use Rattle.np_pred.specs.declared.predicate.Pred.{Pred}
-use Rattle.np_pred.specs.declared.predicate.Pred.TheOpen.{Pred-F, Any, Nothing, Proto, Src, Dst, SrcPort, DstPort, IcmpType, IcmpCode, Established, Not, And, Or}
+use Rattle.np_pred.specs.declared.predicate.Pred.TheOpen.{Pred-F, Any, Nothing, Proto, Src, Dst, SrcPort, DstPort, IcmpType, IcmpCode, Dscp, Established, Not, And, Or}
 use Rattle.np_pred.specs.declared.predicate.Pred.TheFolds.{fold-Pred}
 use Rattle.np_pred.specs.declared.reading.Begun.{Begun}
 use Rattle.np_pred.specs.declared.reading.Begun.TheVariants as begun
@@ -18,6 +18,7 @@ prefixes_step (SrcPort ports) = true
 prefixes_step (DstPort ports) = true
 prefixes_step (IcmpType n) = true
 prefixes_step (IcmpCode n) = true
+prefixes_step (Dscp values) = true
 prefixes_step Established = true
 prefixes_step (Not p) = p
 prefixes_step (And p q) = p && q
@@ -38,6 +39,7 @@ octets_step (SrcPort ports) = true
 octets_step (DstPort ports) = true
 octets_step (IcmpType n) = nat_lt n 256
 octets_step (IcmpCode n) = nat_lt n 256
+octets_step (Dscp values) = true
 octets_step Established = true
 octets_step (Not p) = p
 octets_step (And p q) = p && q
@@ -58,6 +60,7 @@ nesting_step (SrcPort ports) = 1
 nesting_step (DstPort ports) = 1
 nesting_step (IcmpType n) = 1
 nesting_step (IcmpCode n) = 1
+nesting_step (Dscp values) = 1
 nesting_step Established = 1
 nesting_step (Not p) = p + 1
 nesting_step (And p q) = max p q + 1

@@ -27,7 +27,8 @@ field_of word =
     (if bytes_eq word (codes "sport") then Some field.SrcPort else
     (if bytes_eq word (codes "dport") then Some field.DstPort else
     (if bytes_eq word (codes "type") then Some field.IcmpType else
-    (if bytes_eq word (codes "code") then Some field.IcmpCode else None))))))
+    (if bytes_eq word (codes "code") then Some field.IcmpCode else
+    (if bytes_eq word (codes "dscp") then Some field.Dscp else None)))))))
 
 -- the words that take predicates
 unfoldable pub operator_of : List ℕ → Option Operator

@@ -1,5 +1,6 @@
-pub mod Made
+pub mod Bounds
 pub mod Ports
+pub mod Dscp
 pub mod Patterns
 pub mod Areas
 pub mod Keywords

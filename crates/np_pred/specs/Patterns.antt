@@ -1,15 +1,11 @@
 -- Prefixes, and the lists of prefixes that a word gives: `none`, or prefixes joined by commas.
-use Rattle.std.specs.Prelude.{ℕ, ◌-◌, ◌^◌, ◌==◌, Bool, List, [], ◌∷◌, ◌++◌, map, Option, Some, option_and_then, option_map, codes, count_ones, if◌then◌else◌}
+use Rattle.std.specs.Prelude.{ℕ, ◌-◌, ◌==◌, Bool, List, [], ◌∷◌, ◌++◌, map, Option, Some, option_and_then, option_map, codes, count_ones, if◌then◌else◌}
 use Rattle.std.specs.Fmt.{decimal}
 use Rattle.std.specs.List.{list_all, slice_split, join_with_byte}
 use Rattle.std.specs.Str.{bytes_eq}
 use Rattle.np_text.specs.Addresses.{prefix_of, dotted}
 use Rattle.np_space.specs.declared.patterns.Ternary.{Ternary}
-use Rattle.np_pred.specs.Made.{prefix_pattern}
-
--- the wild bits are the lowest ones
-abbrev pub is_prefix : Ternary → Bool
-is_prefix p = p.wild == 2 ^ count_ones p.wild - 1
+use Rattle.np_space.specs.Patterns.{is_prefix, prefix_pattern}
 
 -- each of the patterns is a prefix
 abbrev pub are_prefixes : List Ternary → Bool

@@ -1,12 +1,14 @@
 -- What a list of words means: a predicate, or the first fault.
-use Rattle.std.specs.Prelude.{◌≡◌, ℕ, zero, suc, ◌+◌, Bool, false, ◌&&◌, not, List, [], ◌∷◌, map, Option, Some, None, Result, Ok, Err, codes, if◌then◌else◌}
+use Rattle.std.specs.Prelude.{◌≡◌, ℕ, zero, suc, ◌+◌, Bool, false, ◌&&◌, not, List, [], ◌∷◌, Option, Some, None, Result, Ok, Err, codes, if◌then◌else◌}
 use Rattle.std.specs.Char.{is_ascii_alphabetic}
 use Rattle.std.specs.Option.{ok_or}
 use Rattle.std.specs.Str.{bytes_eq}
 use Rattle.np_text.specs.Numbers.{number_of}
-use Rattle.np_text.specs.declared.cutting.Word.{Word}
+use Rattle.np_lines.specs.Answers.{texts}
+use Rattle.np_lines.specs.Judging.{Judged, ◌>>=◌}
 use Rattle.np_space.specs.declared.patterns.Ternary.{Ternary}
 use Rattle.np_space.specs.declared.spans.Span.{Span}
+use Rattle.np_pred.specs.declared.dscp.DscpSpan.{DscpSpan}
 use Rattle.np_pred.specs.declared.predicate.Pred.{Pred}
 use Rattle.np_pred.specs.declared.predicate.Pred.TheVariants as pred
 use Rattle.np_pred.specs.declared.keywords.Field.{Field}
@@ -14,11 +16,15 @@ use Rattle.np_pred.specs.declared.keywords.Field.TheVariants as field
 use Rattle.np_pred.specs.declared.keywords.Operator.{Operator}
 use Rattle.np_pred.specs.declared.keywords.Operator.TheVariants as operator
 use Rattle.np_pred.specs.declared.pred_error.PredError.{PredError}
-use Rattle.np_pred.specs.declared.pred_error.PredError.TheVariants as fault
+use Rattle.np_pred.specs.declared.pred_error.PredError.TheVariants as error
+use Rattle.np_pred.specs.declared.pred_error.PredFault.{PredFault}
+use Rattle.np_pred.specs.declared.pred_error.PredFault.TheVariants as fault
 use Rattle.np_pred.specs.declared.words_left.Left.{Left}
 use Rattle.np_pred.specs.declared.reading.Begun.{Begun}
 use Rattle.np_pred.specs.declared.reading.Begun.TheVariants as begun
+use Rattle.np_pred.specs.declared.reading.TheConstants.{NESTING_LIMIT}
 use Rattle.np_pred.specs.Areas.{AreaList, sources_named}
+use Rattle.np_pred.specs.Dscp.{dscp_span_of}
 use Rattle.np_pred.specs.Keywords.{constant_of, field_of, operator_of}
 use Rattle.np_pred.specs.Patterns.{addresses_of}
 use Rattle.np_pred.specs.Ports.{ports_of}
@@ -32,15 +38,9 @@ pub record Rest : Type 0 where
 abbrev pub rest_from : ℕ → List (List ℕ) → Rest
 rest_from at words = record { at = at; words = words }
 
--- what reading gives: a value and the words behind it, or the first fault
+-- what reading gives: a value and the words after it, or the first fault
 abbrev pub Read : Type 0 → Type 0
-Read X = Result (X × Rest) PredError
-
--- goes on with the value, and gives the first fault as it is
-infixl 10 ◌>>=◌
-abbrev pub ◌>>=◌ : {A B : Type 0} → Result A PredError → (A → Result B PredError) → Result B PredError
-(Ok x) >>= f = f x
-(Err e) >>= f = Err e
+Read X = Judged PredFault (X × Rest)
 
 -- the first word
 abbrev pub word_in : ℕ → List (List ℕ) → Read (List ℕ)
@@ -63,28 +63,33 @@ abbrev pub is_area_name : List ℕ → Bool
 is_area_name word = has_letter_first word && not (bytes_eq word (codes "none"))
 
 -- the addresses of an area, or of a word with prefixes
-unfoldable pub sources_of : AreaList → ℕ → List ℕ → Result (List Ternary) PredError
+unfoldable pub sources_of : AreaList → ℕ → List ℕ → Judged PredFault (List Ternary)
 sources_of areas at word =
     if is_area_name word then ok_or (sources_named areas word) (fault.UnknownArea at)
     else ok_or (addresses_of word) (fault.BadWord at)
 
 -- a number of one byte
-abbrev pub octet_of : ℕ → List ℕ → Result ℕ PredError
+abbrev pub octet_of : ℕ → List ℕ → Judged PredFault ℕ
 octet_of at word = ok_or (number_of word 255) (fault.BadWord at)
 
 -- a port, or the first and the last of several
-abbrev pub span_of : ℕ → List ℕ → Result Span PredError
-span_of at word = ok_or (ports_of word) (fault.BadWord at)
+abbrev pub port_span_of : ℕ → List ℕ → Judged PredFault Span
+port_span_of at word = ok_or (ports_of word) (fault.BadWord at)
 
--- the predicate of a field and the word behind it
-unfoldable pub argument_of : AreaList → Field → ℕ → List ℕ → Result Pred PredError
+-- a value of DSCP, or the first and the last of several
+abbrev pub dscp_values_of : ℕ → List ℕ → Judged PredFault DscpSpan
+dscp_values_of at word = ok_or (dscp_span_of word) (fault.BadWord at)
+
+-- the predicate of a field and the word after it
+unfoldable pub argument_of : AreaList → Field → ℕ → List ℕ → Judged PredFault Pred
 argument_of areas field.Proto at word = octet_of at word >>= λ value. Ok (pred.Proto value)
 argument_of areas field.Src at word = sources_of areas at word >>= λ sources. Ok (pred.Src sources)
 argument_of areas field.Dst at word = sources_of areas at word >>= λ sources. Ok (pred.Dst sources)
-argument_of areas field.SrcPort at word = span_of at word >>= λ value. Ok (pred.SrcPort value)
-argument_of areas field.DstPort at word = span_of at word >>= λ value. Ok (pred.DstPort value)
+argument_of areas field.SrcPort at word = port_span_of at word >>= λ value. Ok (pred.SrcPort value)
+argument_of areas field.DstPort at word = port_span_of at word >>= λ value. Ok (pred.DstPort value)
 argument_of areas field.IcmpType at word = octet_of at word >>= λ value. Ok (pred.IcmpType value)
 argument_of areas field.IcmpCode at word = octet_of at word >>= λ value. Ok (pred.IcmpCode value)
+argument_of areas field.Dscp at word = dscp_values_of at word >>= λ values. Ok (pred.Dscp values)
 
 -- the same with the word taken from those that are left
 unfoldable pub argument_at : AreaList → Field → Rest → Read Pred
@@ -116,35 +121,35 @@ pred_at areas zero rest = word_at rest >>= λ word. Err (fault.TooDeep rest.at)
 pred_at areas (suc levels) rest = begun_at areas rest >>= λ b. completed (pred_at areas levels) b.0 b.1
 
 -- nothing may follow a whole predicate
-abbrev pub nothing_behind : Pred → ℕ → List (List ℕ) → Result Pred PredError
-nothing_behind p at [] = Ok p
-nothing_behind p at (word ∷ words) = Err (fault.Extra at)
+abbrev pub nothing_after : Pred → ℕ → List (List ℕ) → Judged PredFault Pred
+nothing_after p at [] = Ok p
+nothing_after p at (word ∷ words) = Err (fault.Extra at)
 
 -- the predicate that the words are, or the first fault
-unfoldable pub pred_of : AreaList → List (List ℕ) → Result Pred PredError
-pred_of areas words = pred_at areas 64 (rest_from 0 words) >>= λ p. nothing_behind p.0 p.1.at p.1.words
+unfoldable pub pred_of : AreaList → List (List ℕ) → Judged PredFault Pred
+pred_of areas words = pred_at areas NESTING_LIMIT (rest_from 0 words) >>= λ p. nothing_after p.0 p.1.at p.1.words
+
+-- the position of the word at which a fault is, if it is at one
+abbrev pub fault_at : PredFault → Option ℕ
+fault_at (fault.BadWord at) = Some at
+fault_at fault.Unfinished = None
+fault_at (fault.Extra at) = Some at
+fault_at (fault.TooDeep at) = Some at
+fault_at (fault.UnknownArea at) = Some at
 
 -- ---- what calls answer
-
--- the words without their places in the line
-abbrev pub texts : List Word → List (List ℕ)
-texts words = map (λ word. word.bytes.now) words
 
 -- what a call leaves, with its position
 abbrev pub rest_of : Left → Rest
 rest_of left = record { at = left.at; words = texts left.words.now }
 
 -- a fault is the one that reading gives, and want of memory may come at any time
-abbrev pub FailsAs : {X : Type 0} → PredError → Result X PredError → Type 0
-FailsAs (fault.Memory e) read = Unit {0}
-FailsAs (fault.BadWord at) read = read ≡ Err (fault.BadWord at)
-FailsAs fault.Unfinished read = read ≡ Err fault.Unfinished
-FailsAs (fault.Extra at) read = read ≡ Err (fault.Extra at)
-FailsAs (fault.TooDeep at) read = read ≡ Err (fault.TooDeep at)
-FailsAs (fault.UnknownArea at) read = read ≡ Err (fault.UnknownArea at)
+abbrev pub FailsAs : {X : Type 0} → PredError → Judged PredFault X → Type 0
+FailsAs (error.Fault fault) read = read ≡ Err fault
+FailsAs (error.Memory e) read = Unit {0}
 
 -- a call gives what reading gives
-abbrev pub Gives : {X : Type 0} → Result X PredError → Result X PredError → Type 0
+abbrev pub Gives : {X : Type 0} → Result X PredError → Judged PredFault X → Type 0
 Gives (Ok x) read = read ≡ Ok x
 Gives (Err e) read = FailsAs e read
 

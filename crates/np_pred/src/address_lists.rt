@@ -1,40 +1,26 @@
 //! Lists of prefixes as words.
 
-ghost use Rattle.std.specs.Prelude.{◌≡◌, ◌++◌, ◌∷◌, [], ◌≤◌, ◌<◌, length, IfOk, IfSome, IfNone, OnOk, OnErr, IsTrue};
+ghost use Rattle.std.specs.Prelude.{◌≡◌, ◌++◌, ◌∷◌, [], ◌<◌, length, IfOk, IfSome, IfNone, OnOk, OnErr, IsTrue};
 ghost use Rattle.std.specs.List.{slice_split, flat_map};
 ghost use Rattle.std.specs.Option.{option_map};
 ghost use Rattle.np_text.specs.Appending.{AppendsFront};
-ghost use Rattle.np_pred.specs.Made.{prefix_pattern};
-ghost use Rattle.np_pred.specs.Patterns.{is_comma, is_prefix, are_prefixes, pattern_of, patterns_of, addresses_of, prefix_text, addresses_text};
+ghost use Rattle.np_space.specs.Patterns.{is_prefix};
+ghost use Rattle.np_pred.specs.Patterns.{is_comma, are_prefixes, pattern_of, patterns_of, addresses_of, prefix_text, addresses_text};
 
-use crate::ports::split_once;
 use np_space::Ternary;
-use np_text::{prefix, put_address, put_number};
+use np_text::{prefix, put_address, put_bytes, put_number, split_once};
 use sqlite_items::Items;
 use std::alloc::{AllocError, Global};
-
-// The pattern of the first bits of an address, as many as the length says.
-fn prefix_pattern(address: u32, length: u8) -> Ternary
-    requires { length ≤ 32 }
-    ensures pattern { result ≡ prefix_pattern address length }
-    ensures prefix { IsTrue (is_prefix result) }
-{
-    let unit = 1u64 << (32 - length);
-    Ternary {
-        value: (u64::from(address) / unit * unit) as u32,
-        wild: (unit - 1) as u32,
-    }
-}
 
 fn pattern(word: &[u8]) -> Option<Ternary>
     ensures pattern { result ≡ pattern_of word.now }
     ensures prefix { IfSome result (λ p. IsTrue (is_prefix p)) }
 {
     let (address, length) = prefix(word)?;
-    Some(prefix_pattern(address, length))
+    Some(Ternary::prefix(address, length))
 }
 
-// What stands before the first comma, and what stands behind it. `None` where there is no comma.
+// What stands before the first comma, and what stands after it. `None` where there is no comma.
 fn split_comma(word: &[u8]) -> Option<(&[u8], &[u8])>
     ensures none { IfNone result (slice_split is_comma word.now ≡ word.now ∷ []) }
     ensures parts { IfSome result (λ r. slice_split is_comma word.now ≡ r.0.now ∷ slice_split is_comma r.1.now) }
@@ -64,8 +50,8 @@ fn patterns(alloc: Global, word: &[u8]) -> Result<Option<Vec<Ternary>>, AllocErr
     Ok(Some(patterns))
 }
 
-/// The addresses that a word gives: `none`, or prefixes joined by commas without blanks. `Ok(None)`
-/// for any other word.
+/// The addresses that a word gives: `none`, or prefixes (RFC 4632) joined by commas without blanks.
+/// `Ok(None)` for any other word.
 #[tactic(auto, unfolding(crate::specs::Patterns::addresses_of))]
 pub fn addresses(alloc: Global, word: &[u8]) -> Result<Option<Items<Ternary>>, AllocError>
     ensures addresses { IfOk result (λ found. found ≡ addresses_of word.now) }
@@ -99,7 +85,7 @@ fn put_next_prefix(out: &mut Vec<u8>, pattern: &Ternary) -> Result<(), AllocErro
     put_prefix(out, pattern)
 }
 
-// Appends prefixes, each behind a comma.
+// Appends prefixes, each after a comma.
 fn put_next_prefixes(out: &mut Vec<u8>, patterns: &[Ternary]) -> Result<(), AllocError>
     ensures ok { OnOk result (out.new.items ≡ out.old.items ++ flat_map (λ p. 44 ∷ prefix_text p) patterns.now) }
     ensures err { OnErr result (AppendsFront out.old.items out.new.items (flat_map (λ p. 44 ∷ prefix_text p) patterns.now)) }
@@ -119,8 +105,7 @@ pub fn put_addresses(out: &mut Vec<u8>, patterns: &[Ternary]) -> Result<(), Allo
     ensures err { OnErr result (AppendsFront out.old.items out.new.items (addresses_text patterns.now)) }
 {
     let [first, rest @ ..] = patterns else {
-        out.extend_from_slice(b"none")?;
-        return Ok(());
+        return put_bytes(out, b"none");
     };
     put_prefix(out, first)?;
     put_next_prefixes(out, rest)

@@ -16,6 +16,7 @@ pub enum Field {
     DstPort,
     IcmpType,
     IcmpCode,
+    Dscp,
 }
 
 /// What joins the predicates that follow its word.
@@ -78,6 +79,9 @@ pub fn field_named(word: &[u8]) -> Option<Field>
     }
     if word == b"code".as_slice() {
         return Some(Field::IcmpCode);
+    }
+    if word == b"dscp".as_slice() {
+        return Some(Field::Dscp);
     }
     None
 }

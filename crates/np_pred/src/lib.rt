@@ -3,7 +3,10 @@
 
 mod address_lists;
 mod area_names;
+mod bounds;
 mod canonical;
+mod dscp;
+mod dscp_words;
 mod keywords;
 mod laws;
 mod ports;
@@ -15,10 +18,11 @@ mod words_left;
 pub use address_lists::{addresses, put_addresses};
 pub use area_names::Areas;
 pub use canonical::put_pred;
-pub use laws::{canonical_text_is_words, canonical_words_read_back, prefixes_are_by_bits};
-pub use pred_error::PredError;
+pub use dscp::DscpSpan;
+pub use laws::{
+    canonical_text_is_words, canonical_words_read_back, faults_stand_by_first_words,
+    prefixes_are_by_bits,
+};
+pub use pred_error::{PredError, PredFault};
 pub use predicate::Pred;
-pub use reading::parse;
-
-#[cfg(test)]
-mod tests;
+pub use reading::{NESTING_LIMIT, parse};

@@ -1,35 +1,37 @@
 //! Predicates, and for which headers they hold.
 
 ghost use Rattle.std.specs.Prelude.{◌≡◌};
-ghost use Rattle.std.specs.List.{list_any};
-ghost use Rattle.np_space.specs.Ternary.{ternary_has};
 ghost use Rattle.np_pred.specs.Meaning.{has_ports, pred_holds};
 
-use np_space::{Header, Span, Ternary};
+use crate::dscp::DscpSpan;
+use np_space::{Header, Span, Ternary, any_pattern_has};
 use sqlite_items::{Boxed, Items};
 
-/// A test of a packet's header.
+/// A test of a packet's header, of the fields that filters see (Guttman and Herzog, Rigorous
+/// automated network security management, 2005).
 #[derive(Debug, Drop)]
 pub enum Pred {
     /// Holds for every header.
     Any,
     /// Holds for no header.
     Nothing,
-    /// The protocol has this number.
+    /// The IP protocol has this number (IANA's protocol numbers).
     Proto(u8),
     /// The source address is in one of the patterns.
     Src(Items<Ternary>),
     /// The destination address is in one of the patterns.
     Dst(Items<Ternary>),
-    /// TCP or UDP, with a source port in the span.
+    /// TCP or UDP, with a source port in the span (RFC 793, RFC 768).
     SrcPort(Span),
-    /// TCP or UDP, with a destination port in the span.
+    /// TCP or UDP, with a destination port in the span (RFC 793, RFC 768).
     DstPort(Span),
-    /// ICMP, of this type.
+    /// ICMP, of this type (RFC 792).
     IcmpType(u8),
-    /// ICMP, with this code.
+    /// ICMP, with this code (RFC 792).
     IcmpCode(u8),
-    /// The packet belongs to an established connection.
+    /// The DSCP field is in the span (RFC 2474).
+    Dscp(DscpSpan),
+    /// The packet belongs to an established TCP connection: ACK or RST is set.
     Established,
     /// The operand doesn't hold.
     Not(Boxed<Pred>),
@@ -37,13 +39,6 @@ pub enum Pred {
     And(Boxed<Pred>, Boxed<Pred>),
     /// An operand holds.
     Or(Boxed<Pred>, Boxed<Pred>),
-}
-
-// Whether a pattern has the address.
-fn some_has(patterns: &[Ternary], address: u32) -> bool
-    ensures { result ≡ list_any (λ p. ternary_has p address) patterns.now }
-{
-    patterns.iter().any(|pattern| pattern.has(address))
 }
 
 fn has_ports(header: &Header) -> bool
@@ -61,12 +56,13 @@ impl Pred {
             Pred::Any => true,
             Pred::Nothing => false,
             Pred::Proto(number) => header.proto == *number,
-            Pred::Src(patterns) => some_has(patterns.as_slice(), header.src),
-            Pred::Dst(patterns) => some_has(patterns.as_slice(), header.dst),
+            Pred::Src(patterns) => any_pattern_has(patterns.as_slice(), header.src),
+            Pred::Dst(patterns) => any_pattern_has(patterns.as_slice(), header.dst),
             Pred::SrcPort(ports) => has_ports(header) && ports.has(header.a),
             Pred::DstPort(ports) => has_ports(header) && ports.has(header.b),
             Pred::IcmpType(number) => header.proto == 1 && header.a == u16::from(*number),
             Pred::IcmpCode(number) => header.proto == 1 && header.b == u16::from(*number),
+            Pred::Dscp(span) => span.has(header.dscp),
             Pred::Established => header.est,
             Pred::Not(operand) => !operand.get().holds(header),
             Pred::And(first, second) => first.get().holds(header) && second.get().holds(header),

@@ -7,13 +7,16 @@ ghost use Rattle.np_pred.specs.Areas.{AreaList};
 ghost use Rattle.np_pred.specs.Forms.{IsWellFormed, IsBegunWell};
 ghost use Rattle.np_pred.specs.Patterns.{are_prefixes};
 ghost use Rattle.np_pred.specs.Reading as reading;
-ghost use Rattle.np_pred.specs.Reading.{Gives, GivesBefore, rest_of, texts, sources_of, argument_of, argument_at, begun_at, pred_at, pred_of};
+ghost use Rattle.np_lines.specs.Answers.{texts};
+ghost use Rattle.np_pred.specs.Reading.{Gives, GivesBefore, rest_of, sources_of, argument_of, argument_at, begun_at, pred_at, pred_of};
 
 use crate::address_lists::addresses;
 use crate::area_names::Areas;
+use crate::dscp::DscpSpan;
+use crate::dscp_words::dscp_span;
 use crate::keywords::{Field, Operator, constant_named, field_named, operator_named};
 use crate::ports::ports;
-use crate::pred_error::PredError;
+use crate::pred_error::{PredError, PredFault};
 use crate::predicate::Pred;
 use crate::words_left::Left;
 use np_space::{Span, Ternary};
@@ -22,7 +25,7 @@ use sqlite_items::{Boxed, Items};
 use std::alloc::{AllocError, Global};
 
 /// How deep a predicate may nest: the whole counts as 1.
-const NESTING_LIMIT: usize = 64;
+pub const NESTING_LIMIT: usize = 64;
 
 /// What a word begins.
 pub(crate) enum Begun {
@@ -56,12 +59,12 @@ fn sources(
     if is_area_name(word) {
         return match areas.sources(alloc, word)? {
             Some(sources) => Ok(sources),
-            None => Err(PredError::UnknownArea(at)),
+            None => Err(PredError::Fault(PredFault::UnknownArea(at))),
         };
     }
     match addresses(alloc, word)? {
         Some(sources) => Ok(sources),
-        None => Err(PredError::BadWord(at)),
+        None => Err(PredError::Fault(PredFault::BadWord(at))),
     }
 }
 
@@ -71,16 +74,25 @@ fn octet(at: usize, word: &[u8]) -> Result<u8, PredError>
 {
     match number(word, 255) {
         Some(value) => Ok(value as u8),
-        None => Err(PredError::BadWord(at)),
+        None => Err(PredError::Fault(PredFault::BadWord(at))),
     }
 }
 
-fn span(at: usize, word: &[u8]) -> Result<Span, PredError>
-    ensures { Gives result (reading.span_of at word.now) }
+fn port_span(at: usize, word: &[u8]) -> Result<Span, PredError>
+    ensures { Gives result (reading.port_span_of at word.now) }
 {
     match ports(word) {
         Some(span) => Ok(span),
-        None => Err(PredError::BadWord(at)),
+        None => Err(PredError::Fault(PredFault::BadWord(at))),
+    }
+}
+
+fn dscp_values(at: usize, word: &[u8]) -> Result<DscpSpan, PredError>
+    ensures { Gives result (reading.dscp_values_of at word.now) }
+{
+    match dscp_span(word) {
+        Some(span) => Ok(span),
+        None => Err(PredError::Fault(PredFault::BadWord(at))),
     }
 }
 
@@ -100,10 +112,11 @@ fn argument(
         Field::Proto => Ok(Pred::Proto(octet(at, word)?)),
         Field::Src => Ok(Pred::Src(sources(alloc, areas, at, word)?)),
         Field::Dst => Ok(Pred::Dst(sources(alloc, areas, at, word)?)),
-        Field::SrcPort => Ok(Pred::SrcPort(span(at, word)?)),
-        Field::DstPort => Ok(Pred::DstPort(span(at, word)?)),
+        Field::SrcPort => Ok(Pred::SrcPort(port_span(at, word)?)),
+        Field::DstPort => Ok(Pred::DstPort(port_span(at, word)?)),
         Field::IcmpType => Ok(Pred::IcmpType(octet(at, word)?)),
         Field::IcmpCode => Ok(Pred::IcmpCode(octet(at, word)?)),
+        Field::Dscp => Ok(Pred::Dscp(dscp_values(at, word)?)),
     }
 }
 
@@ -139,7 +152,7 @@ fn begin(alloc: Global, areas: &Areas, left: &mut Left<'_>) -> Result<Begun, Pre
     }
     match operator_named(word) {
         Some(operator) => Ok(Begun::Open(operator)),
-        None => Err(PredError::BadWord(at)),
+        None => Err(PredError::Fault(PredFault::BadWord(at))),
     }
 }
 
@@ -149,9 +162,9 @@ fn too_deep(left: &Left<'_>) -> PredError
     ensures { (areas : AreaList) → reading.FailsAs result (pred_at areas 0 (rest_of left.now)) }
 {
     if left.words.is_empty() {
-        PredError::Unfinished
+        PredError::Fault(PredFault::Unfinished)
     } else {
-        PredError::TooDeep(left.at)
+        PredError::Fault(PredFault::TooDeep(left.at))
     }
 }
 
@@ -210,7 +223,11 @@ fn predicate(
 /// The predicate that the words are, all of them, where `areas` has the areas that they name. It
 /// nests at most 64 deep, the whole counted as 1.
 ///
-/// Any other words are a fault: the first word at which no predicate can go on decides.
+/// Any other words are a fault, and the first word at which no predicate can go on decides: it is
+/// `TooDeep` where it should begin a predicate at nesting 65, `BadWord` where it begins none or
+/// isn't the argument that its place needs, `UnknownArea` where it is an area's name that `areas`
+/// hasn't, and `Extra` where it stands after the whole. Where words are missing at the end, they
+/// are `Unfinished`. `Memory` may come at any time.
 #[tactic(auto, unfolding(crate::specs::Reading::pred_of))]
 pub fn parse(alloc: Global, words: &[Word<'_>], areas: &Areas) -> Result<Pred, PredError>
     ensures read { Gives result (pred_of areas.now (texts words.now)) }
@@ -221,6 +238,6 @@ pub fn parse(alloc: Global, words: &[Word<'_>], areas: &Areas) -> Result<Pred, P
     if left.words.is_empty() {
         Ok(pred)
     } else {
-        Err(PredError::Extra(left.at))
+        Err(PredError::Fault(PredFault::Extra(left.at)))
     }
 }

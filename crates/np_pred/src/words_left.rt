@@ -2,7 +2,7 @@
 
 ghost use Rattle.std.specs.Prelude.{◌+◌, ◌<◌, ◌^◌, length};
 
-use crate::pred_error::PredError;
+use crate::pred_error::{PredError, PredFault};
 use np_text::Word;
 
 /// The words that are left, and the position of the first of them.
@@ -15,7 +15,8 @@ pub struct Left<'a> {
 
 impl<'a> Left<'a> {
     ghost use Rattle.std.specs.Prelude.{◌≡◌, Ok, IfOk, IfErr};
-    ghost use Rattle.np_pred.specs.Reading.{rest_of, rest_from, texts, word_at, FailsAs};
+    ghost use Rattle.np_lines.specs.Answers.{texts};
+    ghost use Rattle.np_pred.specs.Reading.{rest_of, rest_from, word_at, FailsAs};
 
     /// All words, before any is read.
     pub fn all(words: &'a [Word<'a>]) -> Left<'a>
@@ -30,7 +31,7 @@ impl<'a> Left<'a> {
         ensures fault { IfErr result (λ e. FailsAs e (word_at (rest_of self.old))) }
     {
         let [first, rest @ ..] = self.words else {
-            return Err(PredError::Unfinished);
+            return Err(PredError::Fault(PredFault::Unfinished));
         };
         let at = self.at + 1;
         *self = Left { at, words: rest };

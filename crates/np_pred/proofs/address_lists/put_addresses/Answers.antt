@@ -8,7 +8,10 @@ use Rattle.np_pred.proofs.PatternLaws.{addresses_text-first, addresses_text-none
 use Rattle.np_pred.proofs.address_lists.put_addresses.Goals as goal
 
 pub returns-in_default-clause-ok : goal.returns-in_default-clause-ok
-returns-in_default-clause-ok c = rw (addresses_text-none c.args.patterns.now c.in_default.len_below) c.in_ok-extend_from_slice.ensures.items
+returns-in_default-clause-ok c = rw (addresses_text-none c.args.patterns.now c.in_default.len_below) c.put_bytes.ensures.ok
+
+pub returns-in_default-clause-err : goal.returns-in_default-clause-err
+returns-in_default-clause-err c = rw (addresses_text-none c.args.patterns.now c.in_default.len_below) c.put_bytes.ensures.err
 
 pub returns-in_err-put_prefix-clause-err : goal.returns-in_err-put_prefix-clause-err
 returns-in_err-put_prefix-clause-err c =

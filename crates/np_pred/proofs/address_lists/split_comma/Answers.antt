@@ -19,4 +19,4 @@ pub returns-clause-none : goal.returns-clause-none
 returns-clause-none c = no_comma c.args.word.now c.split_once.result c.split_once.ensures.none
 
 pub returns-clause-parts : goal.returns-clause-parts
-returns-clause-parts c = at_comma c.args.word.now c.split_once.result c.split_once.ensures.found c.split_once.ensures.before c.split_once.ensures.behind
+returns-clause-parts c = at_comma c.args.word.now c.split_once.result c.split_once.ensures.found c.split_once.ensures.before c.split_once.ensures.after

@@ -5,10 +5,10 @@ use Rattle.np_text.specs.Appending.{AppendsFront}
 use Rattle.np_text.proofs.AppendLaws.{AppendsFront-more, AppendsFront-after, OnErr-from}
 use Rattle.np_pred.proofs.canonical.put_with_number.Goals as goal
 
-pub returns-in_err-put-clause-err : goal.returns-in_err-put-clause-err
-returns-in_err-put-clause-err c =
-    let front : AppendsFront c.args.out.now.items c.put.new.out.items (c.args.word.now ++ decimal c.args.value) = AppendsFront-more _ c.in_err-put.ensures.err in
+pub returns-in_err-put_bytes-clause-err : goal.returns-in_err-put_bytes-clause-err
+returns-in_err-put_bytes-clause-err c =
+    let front : AppendsFront c.args.out.now.items c.put_bytes.new.out.items (c.args.word.now ++ decimal c.args.value) = AppendsFront-more _ c.in_err-put_bytes.ensures.err in
     OnErr-from _ front
 
 pub returns-clause-err : goal.returns-clause-err
-returns-clause-err c = on_err_weaker c.put_number.result (λ last. (rw (← c.from.ensures) (AppendsFront-after _ _ _ c.in_ok-put.ensures.ok last))) c.put_number.ensures.err
+returns-clause-err c = on_err_weaker c.put_number.result (λ last. (rw (← c.from.ensures) (AppendsFront-after _ _ _ c.in_ok-put_bytes.ensures.ok last))) c.put_number.ensures.err

@@ -1,6 +1,11 @@
-use super::*;
+//! Predicates: words, faults, meaning.
+
+use np_pred::{
+    Areas, DscpSpan, NESTING_LIMIT, Pred, PredError, PredFault, addresses, parse, put_addresses,
+    put_pred,
+};
 use np_space::Header;
-use np_text::{Name, Word};
+use np_text::{Name, word_list};
 use std::alloc::{AllocError, Global};
 use std::test::Fail;
 
@@ -17,14 +22,13 @@ fn lab(alloc: Global) -> Result<Areas, AllocError> {
 
 // The predicate of the words of a line.
 fn read(alloc: Global, areas: &Areas, line: &[u8]) -> Result<Pred, PredError> {
-    let words: Vec<Word> = np_text::words(line).collect(alloc)?;
+    let words = word_list(alloc, line)?;
     parse(alloc, words.as_slice(), areas)
 }
 
 // The canonical text of the predicate of a line.
 fn canonical(alloc: Global, areas: &Areas, line: &[u8]) -> Result<Vec<u8>, PredError> {
-    let words: Vec<Word> = np_text::words(line).collect(alloc)?;
-    let pred = parse(alloc, words.as_slice(), areas)?;
+    let pred = read(alloc, areas, line)?;
     let mut out = Vec::new(alloc);
     put_pred(&mut out, &pred)?;
     Ok(out)
@@ -57,6 +61,9 @@ fn words_give_predicates(rt: HostRuntime) -> Result<(), Fail> {
         ("dport 80-443", "dport 80-443"),
         ("sport 65535-65535", "sport 65535"),
         ("and type 8 code 0", "and type 8 code 0"),
+        ("dscp 063", "dscp 63"),
+        ("not dscp 46-46", "not dscp 46"),
+        ("or dscp 0-7 tcp", "or dscp 0-7 tcp"),
         ("or  not established\tudp", "or not established udp"),
         (
             "and or tcp udp not src 10.1.2.3/16",
@@ -66,6 +73,16 @@ fn words_give_predicates(rt: HostRuntime) -> Result<(), Fail> {
         let out = canonical(rt.alloc(), &areas, line.as_bytes())?;
         assert_eq!(rt; out.as_slice(), text.as_bytes(), "{line:?}");
     }
+    for (word, text) in [
+        ("none", "none"),
+        ("10.1.2.3/8,0.0.0.1", "10.0.0.0/8,0.0.0.1/32"),
+    ] {
+        let mut out = Vec::new(rt.alloc());
+        if let Some(patterns) = addresses(rt.alloc(), word.as_bytes())? {
+            put_addresses(&mut out, patterns.as_slice())?;
+        }
+        assert_eq!(rt; out.as_slice(), text.as_bytes(), "{word:?}");
+    }
     Ok(())
 }
 
@@ -73,43 +90,42 @@ fn words_give_predicates(rt: HostRuntime) -> Result<(), Fail> {
 fn the_first_fault_counts(rt: HostRuntime) -> Result<(), Fail> {
     let areas = lab(rt.alloc())?;
     for (line, fault) in [
-        ("", PredError::Unfinished),
-        ("and tcp", PredError::Unfinished),
-        ("src", PredError::Unfinished),
-        ("tcp udp", PredError::Extra(1)),
-        ("not any x", PredError::Extra(2)),
-        ("src nowhere", PredError::UnknownArea(1)),
-        ("src tcp", PredError::UnknownArea(1)),
-        ("or any dst None", PredError::UnknownArea(3)),
-        ("sport 70000", PredError::BadWord(1)),
-        ("sport 9-3", PredError::BadWord(1)),
-        ("sport 1-2-3", PredError::BadWord(1)),
-        ("proto 256", PredError::BadWord(1)),
-        ("code x", PredError::BadWord(1)),
-        ("src 10.0.0.0/8,", PredError::BadWord(1)),
-        ("and 10.0.0.0/8 any", PredError::BadWord(1)),
-        ("lab", PredError::BadWord(0)),
+        ("", PredFault::Unfinished),
+        ("and tcp", PredFault::Unfinished),
+        ("src", PredFault::Unfinished),
+        ("dscp", PredFault::Unfinished),
+        ("tcp udp", PredFault::Extra(1)),
+        ("not any x", PredFault::Extra(2)),
+        ("src nowhere", PredFault::UnknownArea(1)),
+        ("src tcp", PredFault::UnknownArea(1)),
+        ("or any dst None", PredFault::UnknownArea(3)),
+        ("sport 70000", PredFault::BadWord(1)),
+        ("sport 9-3", PredFault::BadWord(1)),
+        ("sport 1-2-3", PredFault::BadWord(1)),
+        ("proto 256", PredFault::BadWord(1)),
+        ("code x", PredFault::BadWord(1)),
+        ("dscp 64", PredFault::BadWord(1)),
+        ("dscp 8-64", PredFault::BadWord(1)),
+        ("dscp 9-8", PredFault::BadWord(1)),
+        ("not dscp ef", PredFault::BadWord(2)),
+        ("src 10.0.0.0/8,", PredFault::BadWord(1)),
+        ("and 10.0.0.0/8 any", PredFault::BadWord(1)),
+        ("lab", PredFault::BadWord(0)),
     ] {
         let read = canonical(rt.alloc(), &areas, line.as_bytes());
-        assert_eq!(rt; read.err(), Some(fault), "{line:?}");
+        assert_eq!(rt; read.err(), Some(PredError::Fault(fault)), "{line:?}");
     }
-    Ok(())
-}
-
-#[test]
-fn nesting_ends_at_64(rt: HostRuntime) -> Result<(), Fail> {
-    let areas = Areas::new(rt.alloc());
-    let deepest = negations(rt.alloc(), 63, "any")?;
+    let deepest = negations(rt.alloc(), NESTING_LIMIT - 1, "any")?;
     let out = canonical(rt.alloc(), &areas, deepest.as_bytes())?;
     assert_eq!(rt; out.as_slice(), deepest.as_bytes());
     for (word, fault) in [
-        ("any", PredError::TooDeep(64)),
-        ("no-such-word", PredError::TooDeep(64)),
-        ("", PredError::Unfinished),
+        ("any", PredFault::TooDeep(64)),
+        ("no-such-word", PredFault::TooDeep(64)),
+        ("", PredFault::Unfinished),
     ] {
         let line = negations(rt.alloc(), 64, word)?;
         let read = canonical(rt.alloc(), &areas, line.as_bytes());
-        assert_eq!(rt; read.err(), Some(fault), "{word:?}");
+        assert_eq!(rt; read.err(), Some(PredError::Fault(fault)), "{word:?}");
     }
     Ok(())
 }
@@ -124,6 +140,7 @@ fn predicates_hold_by_their_fields(rt: HostRuntime) -> Result<(), Fail> {
         a: 50_000,
         b: 443,
         est: true,
+        dscp: 10,
     };
     let ping = Header {
         src: 0xc0a8_0107,
@@ -132,6 +149,7 @@ fn predicates_hold_by_their_fields(rt: HostRuntime) -> Result<(), Fail> {
         a: 8,
         b: 0,
         est: false,
+        dscp: 46,
     };
     for (line, of_web, of_ping) in [
         ("any", true, true),
@@ -147,6 +165,9 @@ fn predicates_hold_by_their_fields(rt: HostRuntime) -> Result<(), Fail> {
         ("dport 0-65535", true, false),
         ("type 8", false, true),
         ("code 0", false, true),
+        ("dscp 46", false, true),
+        ("dscp 10-45", true, false),
+        ("dscp 0-63", true, true),
         ("established", true, false),
         ("not established", false, true),
         ("and src lab tcp", true, false),
@@ -157,5 +178,8 @@ fn predicates_hold_by_their_fields(rt: HostRuntime) -> Result<(), Fail> {
         assert_eq!(rt; pred.holds(&web), of_web, "{line:?} of {web:?}");
         assert_eq!(rt; pred.holds(&ping), of_ping, "{line:?} of {ping:?}");
     }
+    let high = DscpSpan { low: 8, high: 63 };
+    assert!(rt; high.has(8) && high.has(63) && !high.has(7));
+    assert_eq!(rt; (high.span().low, high.span().high), (8, 63));
     Ok(())
 }

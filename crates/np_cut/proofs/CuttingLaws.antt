@@ -1,6 +1,8 @@
 -- The steps by which the region of a list is cut out of the valid headers.
 use Rattle.std.proofs.Common.{◌≡◌, ℕ, Bool, true, false, List, [], ◌∷◌, ◌++◌, nat_le, refl, sym, ◌∙◌, ap, arith, append_assoc}
-use Rattle.std.specs.Prelude.{◌&&◌, ◌||◌, if◌then◌else◌}
+use Rattle.std.specs.Prelude.{◌&&◌, ◌||◌, if◌then◌else◌, Some}
+use Rattle.std.specs.List.{find}
+use Rattle.std.specs.Option.{option_map_or}
 use Rattle.std.proofs.lemmas.Bool.{true≢false, and_right, le-leb}
 use Rattle.std.proofs.lemmas.List.Folds.{list_any-append}
 use Rattle.np_space.specs.Flag.{flag_number}
@@ -15,7 +17,6 @@ use Rattle.np_space.proofs.FlagLemmas.{or_false, and_true, flag_small}
 use Rattle.np_space.proofs.HeaderLemmas.{valid_widths}
 use Rattle.np_acl.specs.declared.entries.Entry.{Entry}
 use Rattle.np_acl.specs.Entries.{ports_have, entry_matches, first_says}
-
 use Rattle.np_region.specs.Keeping.{KeepsRegions}
 use Rattle.np_region.proofs.KeepingLemmas.{keeps_chained}
 use Rattle.np_cut.specs.Cutting.{matches_with, IsRegionOf, HasDecided}
@@ -175,10 +176,15 @@ module _ {S R : Type 0} (fits : S → R → Type 0) (has : S → R → Header �
           exact = λ h.
               n h
               ∙ (λ i. if m h i then e.permit else ((k.same x so_far.region.fit h ∙ so_far.region.exact h) i))
-              ∙ decides (is_valid_header h) (entry_matches e h) so_far.after h;
+              ∙ decides (is_valid_header h) (entry_matches e h) so_far.after h
+              ∙ ap (λ b. is_valid_header h && b) (says (entry_matches e h) so_far.after h);
         };
       }
     where
+      says : (m : Bool) (after : List Entry) (h : Header) → (if m then e.permit else first_says after h) ≡ option_map_or (λ (x : Entry). x.permit) (if m then Some e else find (λ x. entry_matches x h) after) false
+      says false after h = refl
+      says true after h = refl
+
       decides : (v m : Bool) (after : List Entry) (h : Header) → (if v && m then e.permit else (v && first_says after h)) ≡ (v && (if m then e.permit else first_says after h))
       decides false m after h = refl
       decides true m after h = refl

@@ -7,11 +7,7 @@ use Rattle.np_acl.specs.Entries.{list_permits}
 use Rattle.np_net.specs.declared.filtering.Goal.{Goal}
 use Rattle.np_pred.specs.declared.predicate.Pred.{Pred}
 use Rattle.np_pred.specs.Meaning.{pred_holds}
-use Rattle.np_region.specs.Keeping.{KeepsRegions, EachFits}
-
--- the tests that regions are, as the store keeps them
-abbrev pub cut_tests : {S R : Type 0} → (S → R → Header → Bool) → S → List R → List (Header → Bool)
-cut_tests has s cuts = map (λ cut. has s cut) cuts
+use Rattle.np_region.specs.Keeping.{KeepsRegions, EachFits, tests_of}
 
 -- of the valid headers those that a list permits
 abbrev pub list_test : List Entry → Header → Bool
@@ -37,4 +33,4 @@ filter_tests lists goals = list_tests lists ++ pred_tests (map (λ goal. goal.pr
 pub record AreCuts {S R : Type 0} (fits : S → R → Type 0) (has : S → R → Header → Bool) (tests : List (Header → Bool)) (old new : S) (cuts : List R) : Type 0 where
   pub kept : KeepsRegions fits has old new
   pub fit : EachFits fits new cuts
-  pub exact : cut_tests has new cuts ≡ tests
+  pub exact : tests_of has new cuts ≡ tests

@@ -1,7 +1,8 @@
 //! Blocks that test a field or two of valid headers. Each other field is as in the block of everything.
 
-ghost use Rattle.std.specs.Prelude.{◌≡◌, ◌==◌, ◌&&◌, ◌≤◌, ℕ};
+ghost use Rattle.std.specs.Prelude.{◌≡◌, ◌==◌, ◌&&◌, ◌≤◌, ℕ, Bool};
 ghost use Rattle.np_space.specs.Block.{block_has, fields_have};
+ghost use Rattle.np_space.specs.Flag.{flag_number};
 ghost use Rattle.np_space.specs.Span.{span_has};
 ghost use Rattle.np_space.specs.Ternary.{ternary_has};
 ghost use Rattle.np_space.specs.declared.headers.Header.{Header};
@@ -15,6 +16,14 @@ fn protocol(number: u8) -> Span
     ensures has { (x : ℕ) → span_has result x ≡ (x == number) }
 {
     Span::only(u16::from(number))
+}
+
+// The span of the flag where it is set.
+fn set_flag() -> Span
+    ensures high { result.high ≤ 1 }
+    ensures has { (e : Bool) → span_has result (flag_number e) ≡ e }
+{
+    Span { low: 1, high: 1 }
 }
 
 // The block with these fields.
@@ -92,7 +101,7 @@ pub fn of_established() -> Block
     ensures { TestsOnValid result (λ h. h.est) }
 {
     let all = Block::everything();
-    let set = Span { low: 1, high: 1 };
+    let set = set_flag();
     block_of(all.src, all.dst, all.proto, all.a, all.b, set, all.dscp)
 }
 

@@ -1,8 +1,8 @@
 //! The cuts of a network's filtering: the regions of its lists and of its goals' predicates.
 
 ghost use Rattle.std.specs.Prelude.{◌≡◌, ◌++◌, map, IfOk};
-ghost use Rattle.np_region.specs.Keeping.{KeepsRegions, EachFits};
-ghost use Rattle.np_cut.specs.FilterCuts.{cut_tests, list_tests, pred_tests, filter_tests};
+ghost use Rattle.np_region.specs.Keeping.{KeepsRegions, EachFits, tests_of};
+ghost use Rattle.np_cut.specs.FilterCuts.{list_tests, pred_tests, filter_tests};
 
 use crate::applied::Applied;
 use crate::list_regions::list_region;
@@ -23,7 +23,7 @@ fn with_lists<S: Regions>(
     requires { EachFits S.fits store.old before.items }
     ensures kept { KeepsRegions S.fits S.has_header store.old store.new }
     ensures fits { IfOk result (λ cuts. EachFits S.fits store.new cuts.items) }
-    ensures exact { IfOk result (λ cuts. cut_tests S.has_header store.new cuts.items ≡ cut_tests S.has_header store.old before.items ++ list_tests lists.now) }
+    ensures exact { IfOk result (λ cuts. tests_of S.has_header store.new cuts.items ≡ tests_of S.has_header store.old before.items ++ list_tests lists.now) }
 {
     let mut cuts = before;
     for list in lists {
@@ -43,7 +43,7 @@ pub(crate) fn with_preds<S: Regions>(
     requires { EachFits S.fits store.old before.items }
     ensures kept { KeepsRegions S.fits S.has_header store.old store.new }
     ensures fits { IfOk result (λ cuts. EachFits S.fits store.new cuts.items) }
-    ensures exact { IfOk result (λ cuts. cut_tests S.has_header store.new cuts.items ≡ cut_tests S.has_header store.old before.items ++ pred_tests (map (λ pred. pred.now) preds.now)) }
+    ensures exact { IfOk result (λ cuts. tests_of S.has_header store.new cuts.items ≡ tests_of S.has_header store.old before.items ++ pred_tests (map (λ pred. pred.now) preds.now)) }
 {
     let mut cuts = before;
     for pred in preds {
@@ -74,7 +74,7 @@ pub fn filter_cuts<S: Regions>(
 ) -> Result<Vec<S::R>, AllocError>
     ensures kept { KeepsRegions S.fits S.has_header store.old store.new }
     ensures fits { IfOk result (λ cuts. EachFits S.fits store.new cuts.items) }
-    ensures exact { IfOk result (λ cuts. cut_tests S.has_header store.new cuts.items ≡ filter_tests applied.now.lists net.now.goals) }
+    ensures exact { IfOk result (λ cuts. tests_of S.has_header store.new cuts.items ≡ filter_tests applied.now.lists net.now.goals) }
 {
     let none = Vec::new(alloc);
     let lists = with_lists(alloc, store, none, applied.lists.as_slice())?;

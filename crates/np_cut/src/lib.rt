@@ -3,11 +3,8 @@
 
 mod applied;
 mod applying;
-mod copies;
-mod device_lists;
 mod field_blocks;
 mod filtering;
-mod first_groups;
 mod key_set;
 mod keys;
 mod list_regions;

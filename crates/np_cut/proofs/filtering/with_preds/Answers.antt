@@ -1,6 +1,9 @@
-use Rattle.std.proofs.Common.{◌≡◌, ◌+◌, ◌<◌, [], ◌∷◌, ◌++◌, length, take, ap, sym, ◌∙◌, arith}
+use Rattle.std.proofs.Common.{◌≡◌, ◌+◌, ◌<◌, [], ◌∷◌, ◌++◌, length, map, take, ap, sym, ◌∙◌, arith}
+use Rattle.std.specs.Borrow.{Bor}
 use Rattle.std.proofs.lemmas.List.{take_more}
-use Rattle.np_cut.specs.FilterCuts.{cut_tests, pred_test}
+use Rattle.np_pred.specs.declared.predicate.Pred.{Pred}
+use Rattle.np_region.specs.Keeping.{tests_of}
+use Rattle.np_cut.specs.FilterCuts.{pred_test}
 use Rattle.np_cut.proofs.FilterLaws.{cuts_more}
 use Rattle.np_cut.proofs.filtering.with_preds.Goals as goal
 
@@ -12,4 +15,4 @@ loop-pred-preserved g c =
     let more : take (i + 1) xs ≡ take i xs ++ c.pred-item.result ∷ [] =
     take_more xs i c.pred-item.result within ∙ ap (λ x. take i xs ++ x ∷ []) (sym c.pred-item.is) in
     let has = g.S.Regions.has_header in
-    rw c.in_ok-push.ensures.items (cuts_more g.S.Regions.fits has pred_test (cut_tests has c.args.store.now c.args.before.items) c.args.store.now c.loop-pred.store c.pred_region.new.store (take i xs) (take (i + 1) xs) c.pred-item.result c.loop-pred.cuts.items c.in_ok-cut.cut c.loop-pred.invariant c.pred_region.ensures.kept c.in_ok-cut.ensures.fits c.in_ok-cut.ensures.exact more)
+    rw c.in_ok-push.ensures.items (cuts_more g.S.Regions.fits has pred_test (tests_of has c.args.store.now c.args.before.items) c.args.store.now c.loop-pred.store c.pred_region.new.store (take i xs) (take (i + 1) xs) c.pred-item.result c.loop-pred.cuts.items c.in_ok-cut.cut c.loop-pred.invariant c.pred_region.ensures.kept c.in_ok-cut.ensures.fits c.in_ok-cut.ensures.exact more)

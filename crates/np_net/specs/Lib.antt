@@ -4,3 +4,6 @@ pub mod Distinct
 pub mod Plan
 pub mod Network
 pub mod Path
+pub mod Naming
+pub mod Sources
+pub mod Faults

@@ -1,20 +1,26 @@
-//! The IPsec part of a network: security associations, the tables of the interfaces, and the goals.
+//! The IPsec part of a network: security associations, the tables of the interfaces, and the goals
+//! (Guttman and Herzog, Rigorous automated network security management, 2005; RFC 4301).
 
 use crate::network::{AreaId, DevId, SaId};
 use np_pred::Pred;
 use np_text::Name;
 use sqlite_items::Items;
 
-/// The protocol of a security association.
+/// The protocol of a security association, and what it gives a packet.
 #[derive(Clone, Copy, Debug, PartialEq, Eq)]
 pub enum Kind {
-    /// Encapsulating Security Payload (RFC 4303).
+    /// Encapsulating Security Payload with encryption and integrity (RFC 4303).
     Esp,
-    /// Authentication Header (RFC 4302).
+    /// Encapsulating Security Payload with encryption alone (RFC 4303).
+    EspEnc,
+    /// Encapsulating Security Payload with integrity alone: its encryption is the null algorithm
+    /// (RFC 2410, RFC 4303).
+    EspNull,
+    /// Authentication Header (RFC 4302): integrity, of the outer addresses too.
     Ah,
 }
 
-/// A security association, from one device to another.
+/// A security association, from one device to another (RFC 4301).
 #[derive(Debug, Drop)]
 pub struct Sa {
     pub name: Name,

@@ -1,4 +1,5 @@
-//! The filtering part of a network: its areas, devices, interfaces and goals.
+//! The filtering part of a network: its areas, devices, interfaces and goals (Guttman and Herzog,
+//! Rigorous automated network security management, 2005).
 
 use crate::network::{AreaId, DevId};
 use np_pred::Pred;

@@ -4,16 +4,28 @@
 mod associations;
 mod filtering;
 mod forms;
+mod laws;
+mod limits;
+mod names;
+mod naming;
+mod net_names;
 mod network;
 mod paths;
+mod pred_faults;
+mod sources;
 
 pub use associations::{
     InAction, InRule, IpGoal, Kind, MarkTest, Match, OutAction, OutRule, Sa, Table,
 };
 pub use filtering::{Area, Device, Goal, Interface};
 pub use forms::{is_interface_name, is_name};
+pub use laws::names_are_found;
+pub use limits::{DECLARATION_LIMIT, DEPTH_LIMIT, INTERFACE_LIMIT, RULE_LIMIT};
+pub use names::{Names, Places};
+pub use naming::{area_name, device_name, interface_name, sa_name};
+pub use net_names::NetNames;
 pub use network::{AreaId, DevId, IfId, Network, SaId};
+pub use np_pred::NESTING_LIMIT;
 pub use paths::{Path, path_links};
-
-#[cfg(test)]
-mod tests;
+pub use pred_faults::{PredWhy, pred_why};
+pub use sources::areas_of;

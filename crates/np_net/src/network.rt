@@ -17,7 +17,8 @@ pub type IfId = u16;
 /// A security association, by its place among the associations.
 pub type SaId = u16;
 
-/// A network. Each list has the order of the lines that declare its items.
+/// A network: areas joined by filtering devices (Guttman and Herzog 2005), and its security
+/// associations (RFC 4301). Each list has the order of the lines that declare its items.
 ///
 /// Of every network it is known that each place that stands for an item has one, that the lists are
 /// within their limits, that names have their forms and are unique where they have to be, and that

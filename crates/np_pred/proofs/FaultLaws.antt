@@ -49,10 +49,6 @@ onward-unfinished X rest = λ m e. cc
 
 -- the place after a word
 module _ (at : ℕ) (word : List ℕ) (words : Words) where
-  -- the end stays where it is
-  after_word : at + 1 + length words ≡ at + length (word ∷ words)
-  after_word = omega arith
-
   -- a fault at this word
   onward-here : (X : Type 0) (f : PredFault) → fault_at f ≡ Some at → IsOnward {X = X} (rest_from at (word ∷ words)) (Err f)
   onward-here X f here = λ m e. let same : at ≡ m = cc in (omega arith, omega arith)

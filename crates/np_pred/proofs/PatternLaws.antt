@@ -1,5 +1,5 @@
 -- Lists of prefixes as words.
-use Rattle.std.proofs.Common.{◌≡◌, ℕ, ◌+◌, ◌-◌, ◌<◌, ◌≤◌, append-nil, get_or, take, drop, zero, suc, add-one, Bool, true, false, ◌&&◌, cond, List, [], ◌∷◌, ◌++◌, length, map, Option, Some, None, codes, sym, refl, ap, ◌∙◌, arith, append_assoc}
+use Rattle.std.proofs.Common.{◌≡◌, ℕ, ◌+◌, ◌-◌, ◌<◌, ◌≤◌, append-nil, get_or, take, drop, zero, suc, add-one, Bool, true, false, cond, List, [], ◌∷◌, ◌++◌, length, map, Option, Some, None, codes, sym, refl, ap, ◌∙◌, arith, append_assoc}
 use Rattle.std.specs.List.{flat_map, join_with_byte}
 use Rattle.std.specs.Option.{option_and_then, option_map}
 use Rattle.std.proofs.Math.Seq.{take-length}
@@ -8,8 +8,7 @@ use Rattle.np_text.specs.Addresses.{prefix_of, front_bits}
 use Rattle.np_text.specs.Numbers.{number_of}
 use Rattle.np_text.proofs.NumberLaws.{number_of-le}
 use Rattle.np_space.specs.declared.patterns.Ternary.{Ternary}
-use Rattle.np_space.specs.Patterns.{is_prefix}
-use Rattle.np_pred.specs.Patterns.{are_prefixes, pattern_of, patterns_of, prefix_text, addresses_text}
+use Rattle.np_pred.specs.Patterns.{prefix_text, addresses_text}
 
 -- after an address and a slash
 length_read : (o : Option ℕ) (a : ℕ) (p : ℕ × ℕ) → ((n : ℕ) → o ≡ Some n → n ≤ 32) → option_map (λ n. (front_bits a n, n)) o ≡ Some p → p.1 ≤ 32
@@ -42,34 +41,6 @@ prefix_of-length word p e = either_read _ _ _ p (front_read _ _ p) (whole_read _
 abbrev pub with_front : List Ternary → Option (List Ternary) → Option (List Ternary)
 with_front front read = option_map (λ ps. front ++ ps) read
 
--- before the first
-pub with_front-none : (read : Option (List Ternary)) → with_front [] read ≡ read
-with_front-none None = refl
-with_front-none (Some ps) = refl
-
--- one more pattern
-pub with_front-next : (front : List Ternary) (p : Ternary) (word : List ℕ) (words : List (List ℕ)) → pattern_of word ≡ Some p → with_front (front ++ p ∷ []) (patterns_of words) ≡ with_front front (patterns_of (word ∷ words))
-with_front-next front p word words e = rw e (next front p (patterns_of words)) where
-  next : (front : List Ternary) (p : Ternary) (read : Option (List Ternary)) → with_front (front ++ p ∷ []) read ≡ with_front front (option_map (λ ps. p ∷ ps) read)
-  next front p None = refl
-  next front p (Some ps) = ap (λ l. Some l) (append_assoc front (p ∷ []) ps)
-
--- a word that is no prefix
-pub with_front-fault : (front : List Ternary) (word : List ℕ) (words : List (List ℕ)) → pattern_of word ≡ None → with_front front (patterns_of (word ∷ words)) ≡ None
-with_front-fault front word words e = rw e refl
-
--- the last pattern
-pub with_front-last : (front : List Ternary) (p : Ternary) (word : List ℕ) → pattern_of word ≡ Some p → with_front front (patterns_of (word ∷ [])) ≡ Some (front ++ p ∷ [])
-with_front-last front p word e = rw e refl
-
--- one more prefix
-pub are_prefixes-push : (ps : List Ternary) (p : Ternary) → are_prefixes ps ≡ true → is_prefix p ≡ true → are_prefixes (ps ++ p ∷ []) ≡ true
-are_prefixes-push [] p h new = rw new refl
-are_prefixes-push (q ∷ ps) p h new = by_cases (is_prefix q) (are_prefixes ps) h (are_prefixes-push ps p) new where
-  by_cases : {B : Bool} (a b : Bool) → (a && b) ≡ true → (b ≡ true → is_prefix p ≡ true → B ≡ true) → is_prefix p ≡ true → (a && B) ≡ true
-  by_cases true b h f new = f h new
-  by_cases false b h f new = cc
-
 -- ---- the text of a list
 
 -- joined, each after the byte but for the first
@@ -84,10 +55,6 @@ addresses_text-some p ps = join_with_byte-flat_map 44 (prefix_text p) (map prefi
   over : (ps : List Ternary) → flat_map (λ y. 44 ∷ y) (map prefix_text ps) ≡ flat_map (λ q. 44 ∷ prefix_text q) ps
   over [] = refl
   over (q ∷ ps) = ap (λ l. 44 ∷ (prefix_text q ++ l)) (over ps)
-
--- the same of a list that is known to be these
-pub addresses_text-of : (patterns rest : List Ternary) (p : Ternary) → patterns ≡ p ∷ rest → addresses_text patterns ≡ prefix_text p ++ flat_map (λ q. 44 ∷ prefix_text q) rest
-addresses_text-of patterns rest p e = rw e (addresses_text-some p rest)
 
 -- the word of no prefix
 pub addresses_text-none : (patterns : List Ternary) → length patterns < 1 → addresses_text patterns ≡ codes "none"

@@ -1,63 +1,20 @@
 //! Applying the configurations of a network's devices.
 
-ghost use Rattle.std.specs.Prelude.{◌≡◌, ◌<◌, ◌*◌, ℕ, List as ListOf, [], false, length, map, unwrap_or, IfOk};
+ghost use Rattle.std.specs.Prelude.{◌≡◌, ◌<◌, ◌*◌, ℕ, length, map, IfOk};
 ghost use Rattle.std.specs.List.{AllByRecursion};
-ghost use Rattle.std.specs.Map.{lookup};
-ghost use Rattle.std.specs.Str.{bytes_eq};
 ghost use Rattle.np_net.specs.Distinct.{AreDistinct, same_place};
-ghost use Rattle.np_cut.specs.Applying.{key_list, place_in, applied_by_keys, applied_of, slot_lets};
+ghost use Rattle.np_cut.specs.Applying.{place_in, applied_by_keys, applied_of, slot_lets};
 ghost use Rattle.np_cut.specs.AppliedLists.{applied_lets};
 ghost use Rattle.np_space.specs.declared.headers.Header.{Header};
 
 use crate::applied::Applied;
 use crate::key_set::{KeySet, copy_key, set_of_keys};
-use crate::keys::keys_of_slots;
-use np_acl::List;
-use np_acl_read::{Config, Lists};
+use crate::keys::{keys_of_slots, take_lists};
+use np_acl_read::Config;
 use np_net::{DevId, Network};
 use np_text::Name;
 use sqlite_items::Items;
 use std::alloc::{AllocError, Global};
-
-// Takes the list of this name out; one without entries where it isn't defined.
-fn take_named(alloc: Global, lists: &mut Lists, name: &Name) -> List
-    ensures list { result ≡ unwrap_or (lookup (bytes_eq name.now) lists.old) [] }
-    ensures others { (other : ListOf ℕ) → bytes_eq name.now other ≡ false → lookup (bytes_eq other) lists.new ≡ lookup (bytes_eq other) lists.old }
-{
-    match lists.take(name) {
-        Some(list) => list,
-        None => List::new(alloc),
-    }
-}
-
-// Takes the list of a device and a name out of the device's configuration.
-fn take_list(alloc: Global, configs: &mut [Config], key: &(DevId, Name)) -> List
-    ensures list { result ≡ key_list configs.old key.now }
-    ensures others { (other : ℕ × ListOf ℕ) → same_place other key.now ≡ false → key_list configs.new other ≡ key_list configs.old other }
-{
-    let device = usize::from(key.0);
-    if device < configs.len() {
-        take_named(alloc, &mut configs[device].lists, &key.1)
-    } else {
-        List::new(alloc)
-    }
-}
-
-// Takes the lists of keys out of the configurations.
-fn take_lists(
-    alloc: Global,
-    configs: &mut [Config],
-    keys: &[(DevId, Name)],
-) -> Result<Items<List>, AllocError>
-    requires { AreDistinct same_place keys.now }
-    ensures { IfOk result (λ lists. lists ≡ map (key_list configs.old) keys.now) }
-{
-    let mut lists = Items::new(alloc);
-    for key in keys {
-        lists.push(take_list(alloc, configs, key))?;
-    }
-    Ok(lists)
-}
 
 fn copy_keys(alloc: Global, keys: &[(DevId, Name)]) -> Result<Items<(DevId, Name)>, AllocError>
     ensures { IfOk result (λ copies. copies ≡ keys.now) }

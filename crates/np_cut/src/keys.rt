@@ -1,13 +1,18 @@
-//! The lists that configurations apply at slots, by their devices and names.
+//! The lists of configurations by their devices and names: which of them slots apply, and taking them
+//! out.
 
-ghost use Rattle.std.specs.Prelude.{◌≡◌, ◌<◌, ◌/◌, ◌*◌, length, map, IfOk, is_some};
+ghost use Rattle.std.specs.Prelude.{◌≡◌, ◌<◌, ◌/◌, ◌*◌, ℕ, List as ListOf, [], false, length, map, unwrap_or, IfOk, is_some};
+ghost use Rattle.std.specs.Map.{lookup};
+ghost use Rattle.std.specs.Str.{bytes_eq};
+ghost use Rattle.np_net.specs.Distinct.{AreDistinct, same_place};
 ghost use Rattle.std.specs.List.{range_with_len};
 ghost use Rattle.np_cut.specs.Applying as applying;
 
-use np_acl::Way;
+use np_acl::{List, Way};
 use np_acl_read::{Config, Lists};
 use np_net::{DevId, Interface};
 use np_text::Name;
+use sqlite_items::Items;
 use std::alloc::{AllocError, Global};
 
 // Whether a list is defined and has entries.
@@ -97,4 +102,44 @@ pub(crate) fn keys_of_slots(
         keys.push(key_of_slot(alloc, interfaces, configs, slot)?)?;
     }
     Ok(keys)
+}
+
+// Takes the list of this name out; one without entries where it isn't defined.
+fn take_named(alloc: Global, lists: &mut Lists, name: &Name) -> List
+    ensures list { result ≡ unwrap_or (lookup (bytes_eq name.now) lists.old) [] }
+    ensures others { (other : ListOf ℕ) → bytes_eq name.now other ≡ false → lookup (bytes_eq other) lists.new ≡ lookup (bytes_eq other) lists.old }
+{
+    match lists.take(name) {
+        Some(list) => list,
+        None => List::new(alloc),
+    }
+}
+
+// Takes the list of a device and a name out of the device's configuration.
+fn take_list(alloc: Global, configs: &mut [Config], key: &(DevId, Name)) -> List
+    ensures list { result ≡ applying.key_list configs.old key.now }
+    ensures others { (other : ℕ × ListOf ℕ) → same_place other key.now ≡ false → applying.key_list configs.new other ≡ applying.key_list configs.old other }
+{
+    let device = usize::from(key.0);
+    if device < configs.len() {
+        take_named(alloc, &mut configs[device].lists, &key.1)
+    } else {
+        List::new(alloc)
+    }
+}
+
+/// Takes the lists of keys out of the configurations.
+pub(crate) fn take_lists(
+    alloc: Global,
+    configs: &mut [Config],
+    keys: &[(DevId, Name)],
+) -> Result<Items<List>, AllocError>
+    requires { AreDistinct same_place keys.now }
+    ensures { IfOk result (λ lists. lists ≡ map (applying.key_list configs.old) keys.now) }
+{
+    let mut lists = Items::new(alloc);
+    for key in keys {
+        lists.push(take_list(alloc, configs, key))?;
+    }
+    Ok(lists)
 }

@@ -2,7 +2,7 @@ use Rattle.std.proofs.Common.{◌≡◌, ℕ, List, false, map, take}
 use Rattle.std.specs.List.{list_any}
 use Rattle.np_net.specs.Distinct.{same_place}
 use Rattle.np_cut.specs.Applying.{key_list}
-use Rattle.np_cut.proofs.applying.take_lists.Given as goal
+use Rattle.np_cut.proofs.keys.take_lists.Given as goal
 
 -- the lists of the first keys are taken, and every other key has its list still
 abbrev pub invariant-loop-key : goal.invariant-loop-key

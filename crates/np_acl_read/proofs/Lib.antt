@@ -1,7 +1,6 @@
+pub mod CountingLaws
 pub mod DeclarationLaws
 pub mod LineReading
 pub mod NumberedLaws
-pub mod PortLaws
 pub mod RoomLaws
-pub mod SpanMeaning
-pub mod WordLaws
+pub mod SayingLaws

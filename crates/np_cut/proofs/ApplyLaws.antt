@@ -83,6 +83,9 @@ applied_is interfaces configs slot within h =
 devices_within : (net : Plan) (configs : List Config) → IsNetwork net → AllByRecursion (λ name. name.0 < length net.devices) (names_of_keys (slot_keys net.interfaces configs))
 devices_within net configs is = names_hold (λ name. name.0 < length net.devices) (slot_keys net.interfaces configs) of_slot
   where
+    some_is_none : (k : ℕ × List ℕ) → None ≡ Some k → ⊥
+    some_is_none k e = cc
+
     of_slot : (slot : ℕ) (k : ℕ × List ℕ) → get_or (slot_keys net.interfaces configs) slot None ≡ Some k → k.0 < length net.devices
     of_slot slot k e =
         elim (cases_lt slot (2 * length net.interfaces)) [
@@ -93,12 +96,9 @@ devices_within net configs is = names_hold (λ name. name.0 < length net.devices
               subst (λ n. n < length net.devices) (sym device) (device_in_range net is (slot / 2) (omega arith))
           | inr past ↦
               let none : get_or (slot_keys net.interfaces configs) slot None ≡ None =
-              get_or_past (slot_keys net.interfaces configs) slot None (omega (arith, length-map (slot_key net.interfaces configs) (range_with_len 0 (2 * length net.interfaces)), length-range_with_len 0 (2 * length net.interfaces))) in
+              get_or_past (slot_keys net.interfaces configs) slot None (omega (arith, length-map (range_with_len 0 (2 * length net.interfaces)) (slot_key net.interfaces configs), length-range_with_len 0 (2 * length net.interfaces))) in
               absurd (some_is_none k (sym none ∙ e))
         ]
-
-    some_is_none : (k : ℕ × List ℕ) → None ≡ Some k → ⊥
-    some_is_none k e = cc
 
 module _ {E : Type 0} (interfaces : List Interface) (configs : List Config) where
   pub lets_by_result : (result : Result AppliedLists E) → IfOk result (λ a. a ≡ applied_of interfaces configs) → IfOk result (λ a. (slot : ℕ) → slot < 2 * length interfaces → (h : Header) → applied_lets a slot h ≡ slot_lets interfaces configs slot h)

@@ -57,19 +57,30 @@ fn regions_of_entries_and_lists(rt: HostRuntime) -> Result<(), Fail> {
     let alloc = rt.alloc();
     let mut store = BlockLists::new(alloc);
 
-    let all = asked(alloc, &mut store, &List::new(alloc), &header(17, 53, false, 0))?;
+    let all = asked(
+        alloc,
+        &mut store,
+        &List::new(alloc),
+        &header(17, 53, false, 0),
+    )?;
     assert_eq!(rt; all, (Some(Header::zeros()), true));
 
     let mut replies = tcp_entry(alloc, true, &[(0, 65535)])?;
     replies.est = Span::only(1);
-    assert_eq!(rt; least_match(&mut store, &replies)?, Some(header(6, 0, true, 0)));
+    assert_eq!(rt;
+        least_match(&mut store, &replies)?,
+        Some(header(6, 0, true, 0))
+    );
     let replies = List::from_vec(vec![in alloc; replies]?);
     let found = asked(alloc, &mut store, &replies, &header(6, 80, false, 0))?;
     assert_eq!(rt; found, (Some(header(6, 0, true, 0)), false));
 
     let mut voice = Entry::any(alloc, false)?;
     voice.dscp = Span::only(46);
-    assert_eq!(rt; least_match(&mut store, &voice)?, Some(header(0, 0, false, 46)));
+    assert_eq!(rt;
+        least_match(&mut store, &voice)?,
+        Some(header(0, 0, false, 46))
+    );
     let voice = List::from_vec(vec![in alloc; voice, Entry::any(alloc, true)?]?);
     for (dscp, permitted) in [(45, true), (46, false), (47, true), (63, true), (64, false)] {
         let (_, found) = asked(alloc, &mut store, &voice, &header(0, 0, false, dscp))?;

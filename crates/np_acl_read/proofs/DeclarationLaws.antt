@@ -14,22 +14,23 @@ use Rattle.std.proofs.lemmas.Slice.Eq.{bytes_eq-Decides}
 use Rattle.indexmap.specs.IndexMap.{insert_entry as put}
 use Rattle.np_acl.specs.declared.entries.Entry.{Entry}
 use Rattle.np_acl.specs.declared.kinds.Way.{Way}
+use Rattle.np_acl.specs.declared.kinds.Way.TheVariants.{Inward, Outward}
 use Rattle.np_acl_read.specs.declared.declared.Section.TheVariants as sections
 use Rattle.np_acl_read.specs.declared.statement.NumberedEntry.{NumberedEntry}
 use Rattle.np_acl_read.specs.declared.statement.Statement.{Statement}
 use Rattle.np_acl_read.specs.declared.statement.Statement.TheVariants as statement
-use Rattle.np_acl_read.specs.Adding.{added, added_if, entries_named, with_entry_at, with_list}
-use Rattle.np_acl_read.specs.Declaring.{is_inward, declared_by, section_after, section_of, list_in, with_name, names_of, entry_in, entry_of_list, with_entry, in_order, entries_of, lists_of, group_in, with_group, groups_of}
-use Rattle.np_acl_read.specs.Reading.{and_one}
+use Rattle.np_acl_read.specs.Adding.{added, entries_named, with_entry_at, with_list}
+use Rattle.np_acl_read.specs.Declaring.{declared_by, section_after, section_of, list_in, with_name, names_of, entry_in, entry_of_list, with_entry, in_order, entries_of, lists_of, group_in, with_list_at, groups_of}
+use Rattle.np_acl_read.specs.Groups.{no_groups, with_group}
 
 -- ---- one more item
 
 -- items that give nothing leave what the others give
-none_more : {X Y : Type 0} (h : X → Option Y) (xs : List X) (x : X) → h x ≡ None → filter_map h (xs ++ x ∷ []) ≡ filter_map h xs
+pub none_more : {X Y : Type 0} (h : X → Option Y) (xs : List X) (x : X) → h x ≡ None → filter_map h (xs ++ x ∷ []) ≡ filter_map h xs
 none_more h [] x none = rw none refl
 none_more h (y ∷ xs) x none = rw (none_more h xs x none) refl
 
-one_more : {X Y : Type 0} (h : X → Option Y) (xs : List X) (x : X) (y : Y) → h x ≡ Some y → filter_map h (xs ++ x ∷ []) ≡ filter_map h xs ++ y ∷ []
+pub one_more : {X Y : Type 0} (h : X → Option Y) (xs : List X) (x : X) (y : Y) → h x ≡ Some y → filter_map h (xs ++ x ∷ []) ≡ filter_map h xs ++ y ∷ []
 one_more h xs x y one = filter_map-append h xs (x ∷ []) ∙ rw one refl
 
 fold_more : {A B : Type 0} (f : B → A → B) (b : B) (xs : List A) (x : A) → fold f b (xs ++ x ∷ []) ≡ f (fold f b xs) x
@@ -109,7 +110,7 @@ no_entries_in name (statement.SectionEntry entry ∷ statements) away =
 no_entries_in name (statement.Group interface way list ∷ statements) away = no_entries_in name statements away
 no_entries_in name (statement.Other ∷ statements) away = no_entries_in name statements away
 
-no_entries : (name : List ℕ) (statements : List Statement) → list_any (bytes_eq name) (names_of statements) ≡ false → entries_of statements name ≡ []
+pub no_entries : (name : List ℕ) (statements : List Statement) → list_any (bytes_eq name) (names_of statements) ≡ false → entries_of statements name ≡ []
 no_entries name statements away =
     ap (λ entries. in_order entries) (no_entries_in name statements (sym (any_names_after name [] (filter_map list_in statements)) ∙ away))
 
@@ -135,7 +136,7 @@ made_with_list f names one none = by (list_any (bytes_eq one) names) refl where
   by false away = rw (names_kept f names, away, listed_more f names one, none away) refl
 
 -- the entries that are found at a name
-found_at : (f : List ℕ → List (ℕ × Entry)) (names : List (List ℕ)) (one : List ℕ) → (list_any (bytes_eq one) names ≡ false → f one ≡ []) → entries_named (listed f names) one ≡ f one
+pub found_at : (f : List ℕ → List (ℕ × Entry)) (names : List (List ℕ)) (one : List ℕ) → (list_any (bytes_eq one) names ≡ false → f one ≡ []) → entries_named (listed f names) one ≡ f one
 found_at f [] one none = sym (none refl)
 found_at f (name ∷ names) one none = by (bytes_eq one name) refl (found_at f names one) none where
   by : (b : Bool) → bytes_eq one name ≡ b → ((list_any (bytes_eq one) names ≡ false → f one ≡ []) → entries_named (listed f names) one ≡ f one) → ((b || list_any (bytes_eq one) names) ≡ false → f one ≡ []) → entries_named (listed f (name ∷ names)) one ≡ f one
@@ -147,8 +148,8 @@ same_lists : {V : Type 0} (f g : List ℕ → V) (one : List ℕ) (names : List 
 same_lists f g one [] same away = refl
 same_lists f g one (name ∷ names) same away = rw (same name away.0, same_lists f g one names same away.1) refl
 
-with_name_behind : (name : List ℕ) (names : List (List ℕ)) (one : List ℕ) → bytes_eq one name ≡ false → with_name (name ∷ names) one ≡ name ∷ with_name names one
-with_name_behind name names one away = by (list_any (bytes_eq one) names) refl where
+with_name_after : (name : List ℕ) (names : List (List ℕ)) (one : List ℕ) → bytes_eq one name ≡ false → with_name (name ∷ names) one ≡ name ∷ with_name names one
+with_name_after name names one away = by (list_any (bytes_eq one) names) refl where
   by : (b : Bool) → list_any (bytes_eq one) names ≡ b → with_name (name ∷ names) one ≡ name ∷ with_name names one
   by true there = rw (away, there) refl
   by false none = rw (away, none) refl
@@ -162,7 +163,7 @@ put_changed f g (name ∷ names) one same apart = by (bytes_eq one name) refl (p
       let equal : one ≡ name = (bytes_eq-Decides one name).0 is in
       let away : AllByRecursion (λ name. bytes_eq one name ≡ false) names = subst (λ n. AllByRecursion (λ name. bytes_eq n name ≡ false) names) (sym equal) (IsDistinct-head bytes_eq name names apart) in
       rw (is, same_lists f g one names same away, equal) refl
-  by false is rest = rw (with_name_behind name names one is, is, same name is, rest) refl
+  by false is rest = rw (with_name_after name names one is, is, same name is, rest) refl
 
 -- one more entry leaves the other lists, and stands at its place in its own
 entries_elsewhere : (before : List Statement) (s : Statement) (entry : NumberedEntry) → entry_in s ≡ Some entry → (name : List ℕ) → bytes_eq entry.list name ≡ false → entries_of (before ++ s ∷ []) name ≡ entries_of before name
@@ -205,39 +206,54 @@ lists_added before s entry list is =
 section_more : (before : List Statement) (s : Statement) → section_of (before ++ s ∷ []) ≡ section_after (section_of before) s
 section_more before s = fold_more section_after sections.Closed before s
 
-groups_more : (before : List Statement) (interface : List ℕ) (way : Way) (list : List ℕ) → groups_of (before ++ statement.Group interface way list ∷ []) ≡ with_group (groups_of before) ((interface, is_inward way), list)
-groups_more before interface way list =
-    rw (one_more group_in before (statement.Group interface way list) ((interface, is_inward way), list) refl)
-    (fold_more with_group [] (filter_map group_in before) ((interface, is_inward way), list))
+-- a list that is applied counts at its interface in its way
+groups_more : (before : List Statement) (interface : List ℕ) (way : Way) (list : List ℕ) → groups_of (before ++ statement.Group interface way list ∷ []) ≡ with_group (groups_of before) way interface list
+groups_more before interface Inward list =
+    rw (
+      one_more (group_in Inward) before (statement.Group interface Inward list) (interface, list) refl,
+      none_more (group_in Outward) before (statement.Group interface Inward list) refl,
+      fold_more with_list_at [] (filter_map (group_in Inward) before) (interface, list),
+    ) refl
+groups_more before interface Outward list =
+    rw (
+      none_more (group_in Inward) before (statement.Group interface Outward list) refl,
+      one_more (group_in Outward) before (statement.Group interface Outward list) (interface, list) refl,
+      fold_more with_list_at [] (filter_map (group_in Outward) before) (interface, list),
+    ) refl
 
-declared_one_more : (before : List Statement) (s : Statement) → declared_by (before ++ s ∷ []) ≡ added (declared_by before) s
+-- other statements apply none
+groups_kept : (before : List Statement) (s : Statement) → group_in Inward s ≡ None → group_in Outward s ≡ None → groups_of (before ++ s ∷ []) ≡ groups_of before
+groups_kept before s inward outward = rw (none_more (group_in Inward) before s inward, none_more (group_in Outward) before s outward) refl
+
+-- one statement more declares what it adds
+pub declared_one_more : (before : List Statement) (s : Statement) → declared_by (before ++ s ∷ []) ≡ added (declared_by before) s
 unfolding declared_by
 declared_one_more before (statement.Interface name) =
     rw (
       section_more before (statement.Interface name),
       lists_kept before (statement.Interface name) refl refl,
-      none_more group_in before (statement.Interface name) refl,
+      groups_kept before (statement.Interface name) refl refl,
       none_more entry_in before (statement.Interface name) refl,
     ) refl
 declared_one_more before (statement.Section list kind) =
     rw (
       section_more before (statement.Section list kind),
       lists_opened before (statement.Section list kind) list refl refl,
-      none_more group_in before (statement.Section list kind) refl,
+      groups_kept before (statement.Section list kind) refl refl,
       none_more entry_in before (statement.Section list kind) refl,
     ) refl
 declared_one_more before (statement.Remark list) =
     rw (
       section_more before (statement.Remark list),
       lists_opened before (statement.Remark list) list refl refl,
-      none_more group_in before (statement.Remark list) refl,
+      groups_kept before (statement.Remark list) refl refl,
       none_more entry_in before (statement.Remark list) refl,
     ) refl
 declared_one_more before (statement.ListEntry entry) =
     rw (
       section_more before (statement.ListEntry entry),
       lists_added before (statement.ListEntry entry) entry refl refl,
-      none_more group_in before (statement.ListEntry entry) refl,
+      groups_kept before (statement.ListEntry entry) refl refl,
       one_more entry_in before (statement.ListEntry entry) entry refl,
       length_more (filter_map entry_in before) entry,
     ) refl
@@ -245,7 +261,7 @@ declared_one_more before (statement.SectionEntry entry) =
     rw (
       section_more before (statement.SectionEntry entry),
       lists_added before (statement.SectionEntry entry) entry refl refl,
-      none_more group_in before (statement.SectionEntry entry) refl,
+      groups_kept before (statement.SectionEntry entry) refl refl,
       one_more entry_in before (statement.SectionEntry entry) entry refl,
       length_more (filter_map entry_in before) entry,
     ) refl
@@ -260,16 +276,11 @@ declared_one_more before statement.Other =
     rw (
       section_more before statement.Other,
       lists_kept before statement.Other refl refl,
-      none_more group_in before statement.Other refl,
+      groups_kept before statement.Other refl refl,
       none_more entry_in before statement.Other refl,
     ) refl
 
--- statements with one more, where there is one, declare what was declared and that one
-pub declared_by_more : (before : List Statement) (said : Option Statement) → declared_by (and_one before said) ≡ added_if (declared_by before) said
-declared_by_more before None = refl
-declared_by_more before (Some s) = declared_one_more before s
-
 -- no statements declare nothing
-pub declared_first : declared_by [] ≡ record { section = sections.Closed; lists = []; groups = []; entries = 0 }
+pub declared_first : declared_by [] ≡ record { section = sections.Closed; lists = []; groups = no_groups; entries = 0 }
 unfolding declared_by
 declared_first = refl

@@ -1,7 +1,8 @@
+pub mod CountingLaws
 pub mod DeclarationLaws
+pub mod EntryLines
 pub mod LineReading
+pub mod NewNumberLaws
 pub mod NumberedLaws
-pub mod PortLaws
 pub mod RoomLaws
-pub mod SpanMeaning
-pub mod WordLaws
+pub mod SayingLaws

@@ -26,7 +26,7 @@ put_twice (e ∷ es) k v w = by (bytes_eq k e.0) refl (put_twice es k v w) where
   by true is rest = rw (is, is) refl
   by false is rest = rw (is, is, rest) refl
 
--- a key that is none of these is put behind them
+-- a key that is none of these is put after them
 pub put_new : {V : Type 0} (es : List (List ℕ × V)) (k : List ℕ) (v : V) → list_any (bytes_eq k) (keys_of es) ≡ false → insert_entry bytes_eq es k v ≡ es ++ (k, v) ∷ []
 put_new [] k v none = refl
 put_new (e ∷ es) k v none = by (bytes_eq k e.0) refl (put_new es k v) none where
@@ -46,15 +46,15 @@ open_new lists name none =
 
 -- ---- keys without repeats
 
-apart_from_behind : {V : Type 0} (k : List ℕ) (v : V) (x : List ℕ) (xs ys : List (List ℕ × V)) → AllByRecursion (λ y. bytes_eq x y ≡ false) (keys_of (xs ++ (k, v) ∷ ys)) → bytes_eq x k ≡ false
-apart_from_behind k v x [] ys all = all.0
-apart_from_behind k v x (e ∷ xs) ys all = apart_from_behind k v x xs ys all.1
+apart_from_after : {V : Type 0} (k : List ℕ) (v : V) (x : List ℕ) (xs ys : List (List ℕ × V)) → AllByRecursion (λ y. bytes_eq x y ≡ false) (keys_of (xs ++ (k, v) ∷ ys)) → bytes_eq x k ≡ false
+apart_from_after k v x [] ys all = all.0
+apart_from_after k v x (e ∷ xs) ys all = apart_from_after k v x xs ys all.1
 
 -- where no two keys are the same, a key is none of those before it
 pub not_before : {V : Type 0} (k : List ℕ) (v : V) (xs ys : List (List ℕ × V)) → IsDistinct bytes_eq (keys_of (xs ++ (k, v) ∷ ys)) → lookup (bytes_eq k) xs ≡ None
 not_before k v [] ys apart = refl
 not_before k v (x ∷ xs) ys apart =
-    let away = nat_list_eq_equiv.symm k x.0 ∙ apart_from_behind k v x.0 xs ys (IsDistinct-head bytes_eq x.0 (keys_of (xs ++ (k, v) ∷ ys)) apart) in
+    let away = nat_list_eq_equiv.symm k x.0 ∙ apart_from_after k v x.0 xs ys (IsDistinct-head bytes_eq x.0 (keys_of (xs ++ (k, v) ∷ ys)) apart) in
     rw away (not_before k v xs ys (IsDistinct-tail bytes_eq x.0 (keys_of (xs ++ (k, v) ∷ ys)) apart))
 
 keys_of_plain : (lists : Numbered) → keys_of (plain_lists lists) ≡ keys_of lists

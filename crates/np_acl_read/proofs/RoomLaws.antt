@@ -4,7 +4,7 @@ use Rattle.np_acl_read.specs.declared.statement.Statement.{Statement}
 use Rattle.np_acl_read.specs.declared.statement.Statement.TheVariants as statement
 use Rattle.np_acl_read.specs.Adding.{Fits, NeedsNoRoom}
 
--- such a statement fits behind everything
+-- such a statement fits after everything
 pub fits_anywhere : (declared : Declared) (s : Statement) → NeedsNoRoom s → Fits declared s
 fits_anywhere declared (statement.Interface name) free = tt
 fits_anywhere declared (statement.Section list kind) free = tt

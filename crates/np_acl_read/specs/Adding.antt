@@ -1,5 +1,5 @@
 -- What is declared with one more statement.
-use Rattle.std.specs.Prelude.{ℕ, ◌+◌, ◌<◌, List, [], ◌∷◌, ◌++◌, map, unwrap_or, Option, Some, None, if◌then◌else◌}
+use Rattle.std.specs.Prelude.{ℕ, ◌+◌, ◌<◌, List, [], ◌∷◌, ◌++◌, map, unwrap_or, if◌then◌else◌}
 use Rattle.std.specs.List.{list_any}
 use Rattle.std.specs.Map.{lookup}
 use Rattle.std.specs.Str.{bytes_eq}
@@ -9,7 +9,8 @@ use Rattle.np_acl_read.specs.declared.declared.Declared.{Declared}
 use Rattle.np_acl_read.specs.declared.statement.NumberedEntry.{NumberedEntry}
 use Rattle.np_acl_read.specs.declared.statement.Statement.{Statement}
 use Rattle.np_acl_read.specs.declared.statement.Statement.TheVariants as statement
-use Rattle.np_acl_read.specs.Declaring.{is_inward, section_after, with_entry, with_group}
+use Rattle.np_acl_read.specs.Declaring.{section_after, with_entry}
+use Rattle.np_acl_read.specs.Groups.{with_group}
 
 -- lists by their names, with the entries of each
 abbrev pub Numbered : Type 0
@@ -23,7 +24,7 @@ with_list lists name = if list_any (bytes_eq name) (map (λ list. list.0) lists)
 abbrev pub entries_named : Numbered → List ℕ → List (ℕ × Entry)
 entries_named lists name = unwrap_or (lookup (bytes_eq name) lists) []
 
--- lists with one more entry in the one of this name, which is made behind the others where it isn't there
+-- lists with one more entry in the one of this name, which is made after the others where it isn't there
 abbrev pub with_entry_at : Numbered → List ℕ → ℕ × Entry → Numbered
 with_entry_at lists name entry = put bytes_eq lists name (with_entry (entries_named lists name) entry)
 
@@ -39,23 +40,18 @@ told declared (statement.Section list kind) = record declared { lists = with_lis
 told declared (statement.Remark list) = record declared { lists = with_list declared.lists list }
 told declared (statement.ListEntry entry) = with_numbered declared entry
 told declared (statement.SectionEntry entry) = with_numbered declared entry
-told declared (statement.Group interface way list) = record declared { groups = with_group declared.groups ((interface, is_inward way), list) }
+told declared (statement.Group interface way list) = record declared { groups = with_group declared.groups way interface list }
 told declared statement.Other = declared
 
 -- what is declared with one more statement
 abbrev pub added : Declared → Statement → Declared
 added declared said = record (told declared said) { section = section_after declared.section said }
 
--- the same with a statement, where there is one
-abbrev pub added_if : Declared → Option Statement → Declared
-added_if declared None = declared
-added_if declared (Some said) = added declared said
-
 -- the entries of one configuration, at most
 abbrev pub entry_limit : ℕ
 entry_limit = 20000
 
--- a statement that may stand behind what is declared: there is room for its entry
+-- a statement that may stand after what is declared: there is room for its entry
 abbrev pub Fits : Declared → Statement → Type 0
 Fits declared (statement.Interface name) = Unit {0}
 Fits declared (statement.Section list kind) = Unit {0}

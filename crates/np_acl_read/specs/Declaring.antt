@@ -1,14 +1,13 @@
 -- What the statements of a configuration declare.
-use Rattle.std.specs.Prelude.{ℕ, Bool, true, false, ◌&&◌, List, [], ◌∷◌, ◌++◌, length, map, fold, Option, Some, None, if◌then◌else◌}
+use Rattle.std.specs.Prelude.{ℕ, Bool, true, false, List, [], ◌∷◌, ◌++◌, length, map, fold, Option, Some, None, if◌then◌else◌}
 use Rattle.std.specs.List.{filter_map, list_any}
 use Rattle.std.specs.BTreeMap.{insert_entry}
 use Rattle.indexmap.specs.IndexMap.{insert_entry as put}
 use Rattle.std.specs.Ordering.{nat_cmp}
 use Rattle.std.specs.Str.{bytes_eq}
-use Rattle.std.proofs.Math.Bool.{beq}
 use Rattle.np_acl.specs.declared.entries.Entry.{Entry}
 use Rattle.np_acl_read.specs.declared.config.Config.{Config}
-use Rattle.np_acl_read.specs.declared.config.Group.{Group}
+use Rattle.np_acl_read.specs.Applied.{Applied}
 use Rattle.np_acl.specs.declared.kinds.Way.{Way}
 use Rattle.np_acl.specs.declared.kinds.Way.TheVariants.{Inward, Outward}
 use Rattle.np_acl_read.specs.declared.declared.Declared.{Declared}
@@ -52,7 +51,7 @@ list_in (statement.SectionEntry entry) = Some entry.list
 list_in (statement.Group interface way list) = None
 list_in statement.Other = None
 
--- names with one more, behind the others, where it isn't there
+-- names with one more, after the others, where it isn't there
 abbrev pub with_name : List (List ℕ) → List ℕ → List (List ℕ)
 with_name names name = if list_any (bytes_eq name) names then names else names ++ name ∷ []
 
@@ -82,9 +81,13 @@ with_entry entries entry = insert_entry nat_cmp entries entry.0 entry.1
 abbrev pub in_order : List (ℕ × Entry) → List (ℕ × Entry)
 in_order entries = fold with_entry [] entries
 
+-- the entries of a list, as statements declare them, with their numbers
+abbrev pub declared_in : List Statement → List ℕ → List (ℕ × Entry)
+declared_in statements name = filter_map (entry_of_list name) (filter_map entry_in statements)
+
 -- the entries of a list, in the order of their numbers
 abbrev pub entries_of : List Statement → List ℕ → List (ℕ × Entry)
-entries_of statements name = in_order (filter_map (entry_of_list name) (filter_map entry_in statements))
+entries_of statements name = in_order (declared_in statements name)
 
 -- the lists, each with its entries
 abbrev pub lists_of : List Statement → List (List ℕ × List (ℕ × Entry))
@@ -92,32 +95,38 @@ lists_of statements = map (λ name. (name, entries_of statements name)) (names_o
 
 -- ---- groups
 
--- whether a way is the one in
-abbrev pub is_inward : Way → Bool
-is_inward Inward = true
-is_inward Outward = false
+-- the same way
+abbrev pub is_same_way : Way → Way → Bool
+is_same_way Inward Inward = true
+is_same_way Inward Outward = false
+is_same_way Outward Inward = false
+is_same_way Outward Outward = true
 
--- the list that a statement applies, at an interface, inward or outward
-abbrev pub group_in : Statement → Option ((List ℕ × Bool) × List ℕ)
-group_in (statement.Interface name) = None
-group_in (statement.Section list kind) = None
-group_in (statement.Remark list) = None
-group_in (statement.ListEntry entry) = None
-group_in (statement.SectionEntry entry) = None
-group_in (statement.Group interface way list) = Some ((interface, is_inward way), list)
-group_in statement.Other = None
+-- the interface at which a statement applies a list in this way, and the list
+abbrev pub group_in : Way → Statement → Option (List ℕ × List ℕ)
+group_in way (statement.Interface name) = None
+group_in way (statement.Section list kind) = None
+group_in way (statement.Remark list) = None
+group_in way (statement.ListEntry entry) = None
+group_in way (statement.SectionEntry entry) = None
+group_in way (statement.Group interface other list) = if is_same_way way other then Some (interface, list) else None
+group_in way statement.Other = None
 
--- the same interface and way
-abbrev pub same_slot : List ℕ × Bool → List ℕ × Bool → Bool
-same_slot x y = bytes_eq x.0 y.0 && beq x.1 y.1
+-- the lists at their interfaces, with one more: it counts at its interface, whatever was applied there before
+abbrev pub with_list_at : List (List ℕ × List ℕ) → List ℕ × List ℕ → List (List ℕ × List ℕ)
+with_list_at lists group = put bytes_eq lists group.0 group.1
 
--- the groups with one more: the list that is applied last at an interface and way counts
-abbrev pub with_group : List ((List ℕ × Bool) × List ℕ) → (List ℕ × Bool) × List ℕ → List ((List ℕ × Bool) × List ℕ)
-with_group groups group = put same_slot groups group.0 group.1
+-- the interfaces at which statements apply lists in this way, each with the list
+abbrev pub groups_in : List Statement → Way → List (List ℕ × List ℕ)
+groups_in statements way = filter_map (group_in way) statements
 
--- the list that counts at each interface and way, in the order in which they first appear
-abbrev pub groups_of : List Statement → List ((List ℕ × Bool) × List ℕ)
-groups_of statements = fold with_group [] (filter_map group_in statements)
+-- the lists that statements apply in this way: at each interface the one that is applied last, in the order in which the interfaces first appear
+abbrev pub applied_by : List Statement → Way → List (List ℕ × List ℕ)
+applied_by statements way = fold with_list_at [] (groups_in statements way)
+
+-- the lists that statements apply
+abbrev pub groups_of : List Statement → Applied
+groups_of statements = record { inward = applied_by statements Inward; outward = applied_by statements Outward }
 
 -- ---- the whole
 
@@ -130,18 +139,10 @@ declared_by statements = record {
   entries = length (filter_map entry_in statements);
 }
 
--- a way by whether it is the one in
-abbrev pub way_of : Bool → Way
-way_of inward = if inward then Inward else Outward
-
 -- lists of entries without their numbers
 abbrev pub plain_lists : List (List ℕ × List (ℕ × Entry)) → List (List ℕ × List Entry)
 plain_lists lists = map (λ list. (list.0, map (λ entry. entry.1) list.1)) lists
 
--- groups as a configuration has them
-abbrev pub plain_groups : List ((List ℕ × Bool) × List ℕ) → List Group
-plain_groups groups = map (λ group. record { interface = group.0.0; way = way_of group.0.1; list = group.1 }) groups
-
 -- the configuration of what is declared
 abbrev pub config_with : Declared → Config
-config_with declared = record { lists = plain_lists declared.lists; groups = plain_groups declared.groups }
+config_with declared = record { lists = plain_lists declared.lists; groups = declared.groups }

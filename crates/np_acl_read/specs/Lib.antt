@@ -1,10 +1,9 @@
-pub mod Why
+pub mod Applied
+pub mod Counting
+pub mod Groups
 pub mod Words
-pub mod Spans
-pub mod Entries
 pub mod Declaring
 pub mod Adding
 pub mod Judging
 pub mod Reading
 pub mod Answers
-pub mod Lines

@@ -1,24 +1,21 @@
 //! A device's configuration: its access lists, and where they are applied.
 
-ghost use Rattle.std.specs.Prelude.{◌≡◌, [], ◌∷◌, ◌++◌, List as ListOf, false, None, OnOk, OnErr};
-ghost use Rattle.std.specs.Map.{lookup};
+ghost use Rattle.std.specs.Prelude.{◌≡◌, ℕ, [], ◌∷◌, ◌++◌, List as ListOf, length, slice_get, option_map, false, None, IsSorted, OnOk, OnErr};
+ghost use Rattle.std.specs.Map.Iter.{deref_pair};
+ghost use Rattle.std.specs.Cmp.Lexicographic.{slice_cmp};
+ghost use Rattle.std.specs.List.{IsDistinct};
+ghost use Rattle.std.specs.Map.{keys_of, lookup};
+ghost use Rattle.std.specs.Ordering.{nat_cmp};
+ghost use Rattle.np_acl_read.specs.Groups.{no_groups};
 ghost use Rattle.std.specs.Option.{option_copied};
 ghost use Rattle.std.specs.Str.{bytes_eq};
 
+use crate::groups::Groups;
 use indexmap::IndexMap;
-use np_acl::{List, Way};
+use np_acl::List;
 use np_text::Name;
-use sqlite_items::Items;
 use std::alloc::{AllocError, Global};
 use std::marker::Model;
-
-/// An access list that is applied at an interface in one way.
-#[derive(Drop)]
-pub struct Group {
-    pub interface: Name,
-    pub way: Way,
-    pub list: Name,
-}
 
 /// Access lists by their names, in the order in which the names first appear in the text.
 #[derive(Drop)]
@@ -52,7 +49,41 @@ impl Lists {
         self.lists.get(name)
     }
 
-    /// Adds a list behind the others. Where memory runs out, they stay as they were.
+    /// How many lists there are. No two have the same name.
+    pub fn count(&self) -> usize
+        ensures count { result ≡ length self.now }
+        ensures once { IsDistinct bytes_eq (keys_of self.now) }
+    {
+        self.lists.len()
+    }
+
+    /// The name of the list at this place, from 0 on, and the list. `None` past the last one.
+    pub fn at(&self, place: usize) -> Option<(&Name, &List)>
+        ensures { option_map deref_pair result ≡ slice_get self.now place }
+    {
+        self.lists.get_index(place)
+    }
+
+    /// Takes the list of this name out, if there is one. The others' places may change.
+    pub fn take(&mut self, name: &Name) -> Option<List>
+        ensures taken { result ≡ lookup (bytes_eq name.now) self.old }
+        ensures others { (other : ListOf ℕ) → bytes_eq name.now other ≡ false → lookup (bytes_eq other) self.new ≡ lookup (bytes_eq other) self.old }
+        ensures gone { lookup (bytes_eq name.now) self.new ≡ None }
+    {
+        self.lists.swap_remove(name)
+    }
+
+    /// Puts the lists into the byte order of their names. Where memory runs out, they stay as they
+    /// were.
+    pub fn sort_by_name(&mut self) -> Result<(), AllocError>
+        ensures sorted { OnOk result (IsSorted (slice_cmp nat_cmp) (keys_of self.new)) }
+        ensures same { (name : ListOf ℕ) → lookup (bytes_eq name) self.new ≡ lookup (bytes_eq name) self.old }
+        ensures err { OnErr result (self.new ≡ self.old) }
+    {
+        self.lists.sort_keys()
+    }
+
+    /// Adds a list after the others. Where memory runs out, they stay as they were.
     pub fn add(&mut self, name: Name, list: List) -> Result<(), AllocError>
         requires { lookup (bytes_eq name) self.old ≡ None }
         ensures ok { OnOk result (self.new ≡ self.old ++ (name, list) ∷ []) }
@@ -67,17 +98,16 @@ impl Lists {
 #[derive(Drop)]
 pub struct Config {
     pub lists: Lists,
-    /// At most one for each interface and way.
-    pub groups: Items<Group>,
+    pub groups: Groups,
 }
 
 /// The configuration of a device without one: no lists and no groups.
 pub fn empty_config(alloc: Global) -> Config
     ensures lists { result.lists ≡ [] }
-    ensures groups { result.groups ≡ [] }
+    ensures groups { result.groups ≡ no_groups }
 {
     Config {
         lists: Lists::new(alloc),
-        groups: Items::new(alloc),
+        groups: Groups::new(alloc),
     }
 }

@@ -1,75 +1,79 @@
-//! Where access lists are applied, while a configuration is read.
+//! Where access lists are applied.
 
-ghost use Rattle.std.specs.Prelude.{◌≡◌, [], IfOk, OnOk};
-ghost use Rattle.np_acl_read.specs.Declaring as declaring;
+ghost use Rattle.std.specs.Prelude.{◌≡◌, length, OnOk};
+ghost use Rattle.std.specs.List.{IsDistinct};
+ghost use Rattle.std.specs.Map.{keys_of, lookup};
+ghost use Rattle.std.specs.Option.{option_copied};
+ghost use Rattle.std.specs.Str.{bytes_eq};
+ghost use Rattle.np_acl_read.specs.Groups.{applied, no_groups, with_group};
 
-use crate::config::Group;
 use indexmap::IndexMap;
 use np_acl::Way;
 use np_text::Name;
-use sqlite_items::Items;
 use std::alloc::{AllocError, Global};
 use std::marker::Model;
 
-/// The list that counts at each interface, inward or outward, in the order in which they first appear.
+/// The access lists that are applied at interfaces, by the names of both: at most one at an
+/// interface in each way.
 #[derive(Drop)]
 pub struct Groups {
-    groups: IndexMap<(Name, bool), Name>,
+    inward: IndexMap<Name, Name>,
+    outward: IndexMap<Name, Name>,
 }
 
 impl Model for Groups {
-    ghost use Rattle.std.specs.Prelude.{ℕ, Bool, List};
+    ghost use Rattle.np_acl_read.specs.Applied.{Applied};
 
-    ghost Value = { List ((List ℕ × Bool) × List ℕ) };
+    ghost Value = { Applied };
 
-    ghost view = { λ groups. groups.groups.entries };
-}
-
-fn is_inward(way: Way) -> bool
-    ensures { result ≡ declaring.is_inward way }
-{
-    match way {
-        Way::Inward => true,
-        Way::Outward => false,
-    }
-}
-
-fn way(inward: bool) -> Way
-    ensures { result ≡ declaring.way_of inward }
-{
-    if inward { Way::Inward } else { Way::Outward }
+    ghost view = { λ groups. record { inward = groups.inward.entries; outward = groups.outward.entries } };
 }
 
 impl Groups {
     /// No groups.
     pub fn new(alloc: Global) -> Groups
-        ensures { result ≡ [] }
+        ensures { result ≡ no_groups }
     {
         Groups {
-            groups: IndexMap::new(alloc),
+            inward: IndexMap::new(alloc),
+            outward: IndexMap::new(alloc),
+        }
+    }
+
+    /// The name of the list that is applied at an interface in this way, if there is one. No
+    /// interface stands twice among those of a way.
+    pub fn list_at(&self, interface: &Name, way: Way) -> Option<&Name>
+        ensures list { option_copied result ≡ lookup (bytes_eq interface.now) (applied self.now way) }
+    {
+        match way {
+            Way::Inward => self.inward.get(interface),
+            Way::Outward => self.outward.get(interface),
+        }
+    }
+
+    /// How many lists are applied in this way. No interface stands twice among them.
+    pub fn count(&self, way: Way) -> usize
+        ensures count { result ≡ length (applied self.now way) }
+        ensures once { IsDistinct bytes_eq (keys_of (applied self.now way)) }
+    {
+        match way {
+            Way::Inward => self.inward.len(),
+            Way::Outward => self.outward.len(),
         }
     }
 
     /// Applies a list, in the place of one that is applied there before.
     pub fn apply(&mut self, interface: Name, way: Way, list: Name) -> Result<(), AllocError>
-        ensures { OnOk result (self.new ≡ declaring.with_group self.old ((interface, declaring.is_inward way), list)) }
+        ensures { OnOk result (self.new ≡ with_group self.old way interface list) }
     {
-        self.groups.insert((interface, is_inward(way)), list)?;
-        Ok(())
-    }
-
-    /// The groups as a configuration has them.
-    pub fn into_items(self, alloc: Global) -> Result<Items<Group>, AllocError>
-        ensures { IfOk result (λ groups. groups ≡ declaring.plain_groups self) }
-    {
-        let mut groups = Items::new(alloc);
-        for ((interface, inward), list) in self.groups {
-            groups.push(Group {
-                interface,
-                way: way(inward),
-                list,
-            })?;
+        match way {
+            Way::Inward => {
+                self.inward.insert(interface, list)?;
+            }
+            Way::Outward => {
+                self.outward.insert(interface, list)?;
+            }
         }
-        Ok(groups)
+        Ok(())
     }
 }

@@ -1,26 +1,57 @@
 //! Laws of the definitions that the contracts of this crate cite. A function here does nothing:
 //! its contract is the law.
 
-ghost use Rattle.std.specs.Prelude.{◌≡◌, ◌/◌, ◌≤◌, ◌∷◌, [], ◌&&◌, ℕ, List, map, nat_eq, nat_le, nat_lt, not, true};
-ghost use Rattle.std.specs.List.{AllByRecursion, list_any};
-ghost use Rattle.np_space.specs.Span.{span_from, span_has};
-ghost use Rattle.np_acl.specs.Entries.{ports_have};
-ghost use Rattle.np_acl.specs.Spans.{any_number};
-ghost use Rattle.np_acl_read.specs.Spans.{above, all_but, below, only, precedence_span};
+ghost use Rattle.std.specs.Prelude.{◌≡◌, ◌<◌, ◌∷◌, ℕ, Bool, List, [], map, nat_eq, Ok};
+ghost use Rattle.std.specs.List.{IsDistinct};
+ghost use Rattle.std.specs.List.Sorted.{IsStrictlySortedBy};
+ghost use Rattle.std.specs.Map.{keys_of, lookup};
+ghost use Rattle.std.specs.Ordering.{nat_cmp};
+ghost use Rattle.std.specs.Str.{bytes_eq};
+ghost use Rattle.np_text.specs.Joined.{AreLinesOfWords, joined_line, joined_text};
+ghost use Rattle.np_text.specs.Lines.{lines_of};
+ghost use Rattle.np_lines.specs.Reading.{EachSays, text_says};
+ghost use Rattle.np_text.specs.Words.{words_of};
+ghost use Rattle.np_space.specs.declared.spans.Span.{Span};
+ghost use Rattle.np_acl.specs.declared.entries.Entry.{Entry};
+ghost use Rattle.np_acl.specs.declared.kinds.ListKind.TheVariants.{Extended};
+ghost use Rattle.np_acl.specs.declared.kinds.Way.{Way};
+ghost use Rattle.np_entry_read.specs.Canonical.{IsWritten, entry_words};
+ghost use Rattle.np_acl_read.specs.declared.declared.Declared.{Declared};
+ghost use Rattle.np_acl_read.specs.declared.declared.Section.TheVariants.{List as SectionOf};
+ghost use Rattle.np_acl_read.specs.declared.statement.Statement.TheVariants.{SectionEntry};
+ghost use Rattle.np_acl_read.specs.Adding.{entry_limit};
+ghost use Rattle.np_acl_read.specs.Words.{action_word};
+ghost use Rattle.np_acl_read.specs.declared.statement.Statement.{Statement};
+ghost use Rattle.np_acl_read.specs.Counting.{last_with};
+ghost use Rattle.np_acl_read.specs.Declaring.{applied_by, config_with, declared_by, declared_in, entries_of, groups_in};
+ghost use Rattle.np_acl_read.specs.Judging.{line_says, next_number, numbers_in};
+ghost use Rattle.np_acl_read.specs.Reading.{config_of};
 
-/// The ports that the words of an entry test are exactly those meant.
-#[tactic(auto, using(crate::proofs::SpanMeaning::ports_each, crate::proofs::SpanMeaning::ports_all_but, crate::proofs::SpanMeaning::ports_below, crate::proofs::SpanMeaning::ports_above, crate::proofs::SpanMeaning::ports_between, crate::proofs::SpanMeaning::ports_any))]
-pub fn ports_are_those_meant()
-    ensures each { (ns : List ℕ) (x : ℕ) → AllByRecursion (λ n. n ≤ 65535) ns → ports_have (map only ns) x ≡ list_any (nat_eq x) ns }
-    ensures all_but { (ns : List ℕ) (x : ℕ) → x ≤ 65535 → ports_have (all_but ns) x ≡ not (list_any (nat_eq x) ns) }
-    ensures below { (n x : ℕ) → n ≤ 65535 → ports_have (below n) x ≡ nat_lt x n }
-    ensures above { (n x : ℕ) → x ≤ 65535 → ports_have (above n) x ≡ nat_lt n x }
-    ensures between { (low high x : ℕ) → low ≤ high → high ≤ 65535 → ports_have (span_from low high ∷ []) x ≡ (nat_le low x && nat_le x high) }
-    ensures any { (x : ℕ) → x ≤ 65535 → ports_have (any_number ∷ []) x ≡ true }
+/// The sequence numbers of a list ascend strictly, and its entry of a number is the one that is
+/// declared last with this number: there is none of any other number. Of the statements of a text no
+/// two declare an entry of one list with the same number.
+pub fn entries_are_those_declared()
+    ensures ascend { (statements : List Statement) (name : List ℕ) → IsStrictlySortedBy nat_cmp (keys_of (entries_of statements name)) }
+    ensures declared { (statements : List Statement) (name : List ℕ) (number : ℕ) → lookup (nat_eq number) (entries_of statements name) ≡ last_with (nat_eq number) (declared_in statements name) }
+    ensures once { (text : List ℕ) (statements : List Statement) → text_says (λ before. line_says (declared_by before)) text ≡ Ok statements → (name : List ℕ) → IsDistinct nat_eq (keys_of (declared_in statements name)) }
 {}
 
-/// The code points of a precedence are exactly those whose upper three bits it is.
-#[tactic(auto, using(crate::proofs::SpanMeaning::precedence_meant))]
-pub fn precedences_are_upper_bits()
-    ensures { (precedence dscp : ℕ) → precedence ≤ 7 → span_has (precedence_span precedence) dscp ≡ nat_eq (dscp / 8) precedence }
+/// The list that counts at an interface in one way is that of the last line that applies one there.
+pub fn the_last_group_counts()
+    ensures { (statements : List Statement) (way : Way) (interface : List ℕ) → lookup (bytes_eq interface) (applied_by statements way) ≡ last_with (bytes_eq interface) (groups_in statements way) }
+{}
+
+/// A text whose lines each say a statement, against what those before it declare, is the
+/// configuration that these statements declare; so is the text of lines of words, the words of each
+/// joined by one space.
+#[tactic(auto, using(crate::proofs::LineReading::lines_read, crate::proofs::LineReading::joined_lines_read))]
+pub fn lines_declare_their_statements()
+    ensures text { (text : List ℕ) (statements : List Statement) → EachSays (λ before. line_says (declared_by before)) [] (lines_of text) statements → config_of text ≡ Ok (config_with (declared_by statements)) }
+    ensures joined { (lines : List (Bool × List (List ℕ))) (statements : List Statement) → AreLinesOfWords lines → EachSays (λ before. line_says (declared_by before)) [] (map (λ line. joined_line line.0 line.1) lines) statements → config_of (joined_text lines) ≡ Ok (config_with (declared_by statements)) }
+{}
+
+/// In the section of an extended list a line of `permit` or `deny` and the canonical words of an
+/// entry says this entry, with the next number of the list.
+pub fn canonical_lines_read_back()
+    ensures { (declared : Declared) (list line : List ℕ) (e : Entry) (a b : Span) (n : ℕ) → words_of line ≡ action_word e.permit ∷ entry_words e a b → IsWritten e a b → declared.section ≡ SectionOf list Extended → next_number (numbers_in declared.lists list) ≡ Ok n → declared.entries < entry_limit → line_says declared line ≡ Ok (Some (SectionEntry (record { list = list; number = n; entry = e }))) }
 {}

@@ -4,18 +4,17 @@ ghost use Rattle.std.specs.Prelude.{◌≡◌, ◌<◌, IfOk, IfSome, OnOk, nat_
 ghost use Rattle.std.specs.List.{list_any};
 ghost use Rattle.std.specs.Option.{option_copied};
 ghost use Rattle.np_acl_read.specs.Adding.{entry_limit};
-ghost use Rattle.np_acl_read.specs.Answers.{Gives, texts};
+ghost use Rattle.np_lines.specs.Answers.{Gives, texts};
 ghost use Rattle.np_acl_read.specs.Judging as judging;
 
 use crate::declared::Declared;
-use crate::entry::entry;
-use crate::fault::ConfigWhy;
-use crate::line_error::LineError;
 use crate::numbered::NumberedLists;
 use crate::statement::NumberedEntry;
 use crate::words::action;
 use np_acl::ListKind;
-use np_text::{Name, number};
+use np_entry_read::{ConfigWhy, entry};
+use np_lines::{LineError, within};
+use np_text::{Name, Word, number};
 use std::alloc::Global;
 
 /// The entries of one configuration, at most.
@@ -45,7 +44,11 @@ fn greatest(lists: &NumberedLists, list: &Name) -> u32
 }
 
 /// The number of a word that an entry of a list may have.
-fn sequence_number(lists: &NumberedLists, list: &Name, word: &[u8]) -> Result<u32, LineError>
+fn sequence_number(
+    lists: &NumberedLists,
+    list: &Name,
+    word: &[u8],
+) -> Result<u32, LineError<ConfigWhy>>
     ensures { Gives result (judging.sequence_number (judging.numbers_in lists.now list.now) word.now) }
 {
     match number(word, u64::from(NUMBER_LIMIT)) {
@@ -62,7 +65,7 @@ fn sequence_number(lists: &NumberedLists, list: &Name, word: &[u8]) -> Result<u3
 }
 
 /// The number of an entry without one: 10 more than the greatest of its list.
-fn next_number(lists: &NumberedLists, list: &Name) -> Result<u32, LineError>
+fn next_number(lists: &NumberedLists, list: &Name) -> Result<u32, LineError<ConfigWhy>>
     ensures { Gives result (judging.next_number (judging.numbers_in lists.now list.now)) }
 {
     let greatest = greatest(lists, list);
@@ -73,40 +76,31 @@ fn next_number(lists: &NumberedLists, list: &Name) -> Result<u32, LineError>
     }
 }
 
-/// One more entry, where there are so many.
-fn counted(entries: usize, entry: NumberedEntry) -> Result<NumberedEntry, LineError>
-    ensures says { Gives result (judging.counted entries entry) }
-    ensures room { OnOk result (entries < entry_limit) }
-{
-    if entries < ENTRY_LIMIT {
-        Ok(entry)
-    } else {
-        Err(LineError::Faulty(ConfigWhy::TooManyEntries))
-    }
-}
-
-/// An entry of a list without a number, by the words behind `permit` or `deny`.
+/// An entry of a list without a number, by the words after `permit` or `deny`.
 fn unnumbered(
     alloc: Global,
     declared: &Declared,
     list: &Name,
     kind: ListKind,
     permit: bool,
-    words: &[&[u8]],
-) -> Result<NumberedEntry, LineError>
+    words: &[Word<'_>],
+) -> Result<NumberedEntry, LineError<ConfigWhy>>
     ensures says { Gives result (judging.unnumbered declared.now list.now kind permit (texts words.now)) }
     ensures room { OnOk result (declared.now.entries < entry_limit) }
 {
     let entry = entry(alloc, kind, permit, words)?;
     let number = next_number(&declared.lists, list)?;
     let list = list.copy(alloc)?;
-    counted(
+    let entry = NumberedEntry {
+        list,
+        number,
+        entry,
+    };
+    within(
+        ENTRY_LIMIT,
         declared.entries,
-        NumberedEntry {
-            list,
-            number,
-            entry,
-        },
+        entry,
+        ConfigWhy::TooManyEntries,
     )
 }
 
@@ -118,21 +112,24 @@ fn numbered(
     kind: ListKind,
     word: &[u8],
     permit: bool,
-    words: &[&[u8]],
-) -> Result<NumberedEntry, LineError>
+    words: &[Word<'_>],
+) -> Result<NumberedEntry, LineError<ConfigWhy>>
     ensures says { Gives result (judging.numbered declared.now list.now kind word.now permit (texts words.now)) }
     ensures room { OnOk result (declared.now.entries < entry_limit) }
 {
     let number = sequence_number(&declared.lists, list, word)?;
     let entry = entry(alloc, kind, permit, words)?;
     let list = list.copy(alloc)?;
-    counted(
+    let entry = NumberedEntry {
+        list,
+        number,
+        entry,
+    };
+    within(
+        ENTRY_LIMIT,
         declared.entries,
-        NumberedEntry {
-            list,
-            number,
-            entry,
-        },
+        entry,
+        ConfigWhy::TooManyEntries,
     )
 }
 
@@ -144,8 +141,8 @@ fn list_entry(
     kind: ListKind,
     number: Option<&[u8]>,
     permit: bool,
-    words: &[&[u8]],
-) -> Result<NumberedEntry, LineError>
+    words: &[Word<'_>],
+) -> Result<NumberedEntry, LineError<ConfigWhy>>
     ensures says { Gives result (judging.list_entry declared.now list.now kind (option_copied number.entry) permit (texts words.now)) }
     ensures room { OnOk result (declared.now.entries < entry_limit) }
 {
@@ -174,22 +171,22 @@ pub fn entry_or_remark(
     list: &Name,
     kind: ListKind,
     number: Option<&[u8]>,
-    words: &[&[u8]],
-) -> Result<Option<NumberedEntry>, LineError>
+    words: &[Word<'_>],
+) -> Result<Option<NumberedEntry>, LineError<ConfigWhy>>
     ensures says { Gives result (judging.entry_or_remark declared.now list.now kind (option_copied number.entry) (texts words.now)) }
     ensures room { IfOk result (λ entry. IfSome entry (λ _. declared.now.entries < entry_limit)) }
 {
     let [word, words @ ..] = words else {
         return Err(LineError::Faulty(ConfigWhy::BadEntry));
     };
-    if *word == b"remark".as_slice() {
+    if word.bytes == b"remark".as_slice() {
         return Ok(None);
     }
-    match action(word) {
+    match action(word.bytes) {
         Some(permit) => {
             let entry = list_entry(alloc, declared, list, kind, number, permit, words)?;
             Ok(Some(entry))
         }
-        None => Err(LineError::Faulty(no_action(word))),
+        None => Err(LineError::Faulty(no_action(word.bytes))),
     }
 }

@@ -16,9 +16,11 @@ use std::alloc::{AllocError, Global};
 fn config(alloc: Global, declared: Declared) -> Result<Config, AllocError>
     ensures { IfOk result (λ config. config ≡ config_with declared) }
 {
-    let groups = declared.groups.into_items(alloc)?;
     let lists = declared.lists.into_lists(alloc)?;
-    Ok(Config { lists, groups })
+    Ok(Config {
+        lists,
+        groups: declared.groups,
+    })
 }
 
 /// The configuration that a text declares. Lines that are none of lists and groups are skipped, in

@@ -155,6 +155,3 @@ impl Eq for AtomSet {
 
     ghost laws = { Prim.search (comparing, rules) };
 }
-
-#[cfg(test)]
-mod tests;

@@ -1,67 +1,42 @@
--- What configurations apply, by the maps that are made of them.
-use Rattle.std.proofs.Common.{◌≡◌, ℕ, ◌*◌, ◌%◌, ◌<◌, Bool, true, List, [], ◌∷◌, length, get_or, map, Option, Some, None, Result, Ok, Err, IfOk, refl, sym, ◌∙◌, ap, subst, arith}
-use Rattle.std.specs.Prelude.{IfSome, option_and_then, unwrap_or, ◌==◌}
-use Rattle.std.specs.List.{range_with_len}
+-- What configurations apply: the lists that are taken out, and what they let cross.
+use Rattle.std.proofs.Common.{◌≡◌, ℕ, ◌+◌, ◌*◌, ◌/◌, ◌<◌, ◌≤◌, Bool, true, false, List, [], ◌∷◌, ◌++◌, length, get_or, set, take, map, Option, Some, None, Result, Ok, Err, IfOk, refl, sym, ◌∙◌, ap, subst, arith, inl, inr}
+use Rattle.std.specs.Prelude.{◌||◌, IfSome, option_and_then, unwrap_or}
+use Rattle.std.specs.List.{AllByRecursion, range_with_len}
 use Rattle.std.specs.Map.{lookup}
 use Rattle.std.specs.Option.{option_map_or}
 use Rattle.std.specs.Str.{bytes_eq}
 use Rattle.std.proofs.Math.ListN.{get_or-map as get_or-map-default}
-use Rattle.std.proofs.lemmas.List.{get_or-map}
-use Rattle.std.proofs.lemmas.List.FromFn.{get_or-map-range_with_len}
+use Rattle.std.proofs.lemmas.Bool.{cases_lt}
+use Rattle.std.proofs.lemmas.List.{get_or-map, get_or_past, length-map}
+use Rattle.std.proofs.lemmas.List.FromFn.{get_or-map-range_with_len, length-range_with_len}
 use Rattle.np_space.specs.declared.headers.Header.{Header}
 use Rattle.np_acl.specs.declared.entries.Entry.{Entry}
 use Rattle.np_acl.specs.Entries.{list_permits}
-use Rattle.np_acl_read.specs.Declaring.{same_slot}
 use Rattle.np_acl_read.specs.declared.config.Config.{Config}
 use Rattle.np_net.specs.declared.filtering.Interface.{Interface}
+use Rattle.np_net.specs.Distinct.{AreDistinct, same_place}
+use Rattle.np_net.specs.Network.{IsNetwork}
 use Rattle.np_net.specs.Plan.{Plan}
-use Rattle.np_cut.specs.declared.device_lists.DeviceLists.{DeviceLists}
-use Rattle.np_cut.specs.Applying.{config_at, key_list, list_with_entries, names_of_keys, place_in, posture_of, slot_config, slot_interface, slot_key, slot_keys, slot_lets, slot_name, group_entries}
-use Rattle.np_cut.specs.DeviceLists.{device_at, device_lists, key_of_slot, list_of_key, named_key, posture_with}
-use Rattle.np_cut.specs.Posture.{Posture, IsPosture, posture_lets}
-use Rattle.np_cut.proofs.GroupLaws.{first_counts}
-use Rattle.np_cut.proofs.KeyLaws.{StandsAt, key_stands, place_within}
+use Rattle.np_net.proofs.RangeLaws.{device_in_range}
+use Rattle.np_cut.specs.Applying.{applied_of, key_list, list_with_entries, named_key, names_of_keys, place_in, slot_config, slot_interface, slot_key, slot_keys, slot_lets, slot_name}
+use Rattle.np_cut.specs.AppliedLists.{AppliedLists, IsApplied, applied_lets}
+use Rattle.np_cut.proofs.KeyLaws.{StandsAt, key_device, key_stands, names_distinct, names_hold, place_within}
 
--- ---- the maps
+-- ---- the lists and where they are applied
 
-device_is : (configs : List Config) (device : ℕ) → device_at (map device_lists configs) device ≡ device_lists (config_at configs device)
-device_is configs device = get_or-map-default device_lists configs device record { lists = []; groups = [] }
-
--- the key of a slot is found in the maps
-key_same : (net : Plan) (configs : List Config) (slot : ℕ) → key_of_slot net.interfaces (map device_lists configs) slot ≡ slot_key net configs slot
-key_same net configs slot =
-    let device = (slot_interface net slot).device in
-    let config = slot_config net configs slot in
-    let place : List ℕ × Bool = ((slot_interface net slot).name, slot % 2 == 0) in
-    ap (λ (d : DeviceLists). option_and_then (named_key d.lists device) (lookup (same_slot place) d.groups)) (device_is configs device)
-    ∙ ap (λ o. option_and_then (named_key config.lists device) o) (first_counts place (group_entries config.groups))
-
-list_same : (configs : List Config) (key : ℕ × List ℕ) → list_of_key (map device_lists configs) key ≡ key_list configs key
-list_same configs key = ap (λ (d : DeviceLists). unwrap_or (lookup (bytes_eq key.1) d.lists) []) (device_is configs key.0)
-
-abbrev made : (ℕ × List ℕ → List Entry) → List (Option (ℕ × List ℕ)) → Posture
-made list keys = record { lists = map list (names_of_keys keys); names = names_of_keys keys; at = map (place_in (names_of_keys keys)) keys }
-
--- what is made of the maps is what the configurations apply
-pub posture_made : (net : Plan) (configs : List Config) (interfaces : List Interface) (devices before : List DeviceLists) (keys : List (Option (ℕ × List ℕ))) (slots : ℕ) →
-    interfaces ≡ net.interfaces → slots ≡ 2 * length net.interfaces → devices ≡ map device_lists configs → before ≡ map device_lists configs → keys ≡ map (key_of_slot interfaces before) (range_with_len 0 slots) →
-    posture_with devices keys ≡ posture_of net configs
-posture_made net configs interfaces devices before keys slots ei es ed eb ek =
-    (λ i. made (list_of_key (ed i)) (ek i))
-    ∙ (λ i. made (list_of_key (map device_lists configs)) (map (key_of_slot (ei i) (eb i)) (range_with_len 0 (es i))))
-    ∙ (λ i. made (λ key. list_same configs key i) (map (λ slot. key_same net configs slot i) (range_with_len 0 (2 * length net.interfaces))))
-
--- ---- the posture
-
-pub is_posture : (lists : List (List Entry)) (names set : List (ℕ × List ℕ)) (keys : List (Option (ℕ × List ℕ))) (at : List (Option ℕ)) → length lists ≡ length set → at ≡ map (place_in set) keys → IsPosture record { lists = lists; names = names; at = at }
-is_posture lists names set keys at el ea = record { places = λ slot. subst (λ (o : Option ℕ). IfSome o (λ place. place < length lists)) (sym (read slot)) (subst (λ (n : ℕ). IfSome (place_in set (get_or keys slot None)) (λ place. place < n)) (sym el) (place_within set (get_or keys slot None))) }
+pub is_applied : (lists : List (List Entry)) (names set : List (ℕ × List ℕ)) (keys : List (Option (ℕ × List ℕ))) (at : List (Option ℕ)) → length lists ≡ length set → names ≡ set → at ≡ map (place_in set) keys → IsApplied record { lists = lists; names = names; at = at }
+is_applied lists names set keys at el en ea =
+    record {
+      places = λ slot. subst (λ (o : Option ℕ). IfSome o (λ place. place < length lists)) (sym (read slot)) (subst (λ (n : ℕ). IfSome (place_in set (get_or keys slot None)) (λ place. place < n)) (sym el) (place_within set (get_or keys slot None)));
+      named = ap length en ∙ sym el;
+    }
   where
     read : (slot : ℕ) → get_or at slot None ≡ place_in set (get_or keys slot None)
     read slot = ap (λ l. get_or l slot None) ea ∙ get_or-map-default (place_in set) keys slot None
 
 -- the key of a slot, as the slots are numbered
-key_read : (net : Plan) (configs : List Config) (slot : ℕ) → slot < 2 * length net.interfaces → get_or (slot_keys net configs) slot None ≡ slot_key net configs slot
-key_read net configs slot within = get_or-map-range_with_len (slot_key net configs) 0 (2 * length net.interfaces) slot slot None within (omega arith)
+key_read : (interfaces : List Interface) (configs : List Config) (slot : ℕ) → slot < 2 * length interfaces → get_or (slot_keys interfaces configs) slot None ≡ slot_key interfaces configs slot
+key_read interfaces configs slot within = get_or-map-range_with_len (slot_key interfaces configs) 0 (2 * length interfaces) slot slot None within (omega arith)
 
 -- what is permitted by the list at the place of a slot's key
 permitted_at : (configs : List Config) (names : List (ℕ × List ℕ)) (k : ℕ × List ℕ) (place : ℕ) (list : List Entry) (h : Header) → StandsAt names k place → key_list configs k ≡ list → option_map_or (λ n. list_permits (get_or (map (key_list configs) names) n []) h) (place_in names (Some k)) true ≡ list_permits list h
@@ -69,29 +44,29 @@ permitted_at configs names k place list h s e =
     ap (λ o. option_map_or (λ n. list_permits (get_or (map (key_list configs) names) n []) h) o true) s.is
     ∙ ap (λ l. list_permits l h) (get_or-map (key_list configs) names place (0, []) [] s.within ∙ ap (key_list configs) (s.key (0, [])) ∙ e)
 
--- what the posture lets cross a slot is what the configurations do
-pub posture_is : (net : Plan) (configs : List Config) (slot : ℕ) → slot < 2 * length net.interfaces → (h : Header) → posture_lets (posture_of net configs) slot h ≡ slot_lets net configs slot h
-posture_is net configs slot within h =
+-- what the lists let cross a slot is what the configurations do
+pub applied_is : (interfaces : List Interface) (configs : List Config) (slot : ℕ) → slot < 2 * length interfaces → (h : Header) → applied_lets (applied_of interfaces configs) slot h ≡ slot_lets interfaces configs slot h
+applied_is interfaces configs slot within h =
     ap (λ o. option_map_or permits o true) (get_or-map-default (place_in names) keys slot None ∙ ap (place_in names) read)
-    ∙ by_name (slot_name net configs slot) read
+    ∙ by_name (slot_name interfaces configs slot) read
   where
     keys : List (Option (ℕ × List ℕ))
-    keys = slot_keys net configs
+    keys = slot_keys interfaces configs
 
     names : List (ℕ × List ℕ)
     names = names_of_keys keys
 
     config : Config
-    config = slot_config net configs slot
+    config = slot_config interfaces configs slot
 
     device : ℕ
-    device = (slot_interface net slot).device
+    device = (slot_interface interfaces slot).device
 
     permits : ℕ → Bool
     permits n = list_permits (get_or (map (key_list configs) names) n []) h
 
-    read : get_or keys slot None ≡ slot_key net configs slot
-    read = key_read net configs slot within
+    read : get_or keys slot None ≡ slot_key interfaces configs slot
+    read = key_read interfaces configs slot within
 
     by_list : (name : List ℕ) (found : Option (List Entry)) → lookup (bytes_eq name) config.lists ≡ found → get_or keys slot None ≡ named_key config.lists device name → option_map_or permits (place_in names (named_key config.lists device name)) true ≡ option_map_or (λ list. list_permits list h) (list_with_entries config.lists name) true
     by_list name None e r = rw e refl
@@ -104,6 +79,36 @@ posture_is net configs slot within h =
     by_name None r = refl
     by_name (Some name) r = by_list name (lookup (bytes_eq name) config.lists) refl r
 
-pub lets_by_result : {E : Type 0} (net : Plan) (configs : List Config) (result : Result Posture E) → IfOk result (λ p. p ≡ posture_of net configs) → IfOk result (λ p. (slot : ℕ) → slot < 2 * length net.interfaces → (h : Header) → posture_lets p slot h ≡ slot_lets net configs slot h)
-lets_by_result net configs (Ok p) e = λ slot within h. ap (λ q. posture_lets q slot h) e ∙ posture_is net configs slot within h
-lets_by_result net configs (Err x) e = e
+-- the devices of the lists are devices of the network
+devices_within : (net : Plan) (configs : List Config) → IsNetwork net → AllByRecursion (λ name. name.0 < length net.devices) (names_of_keys (slot_keys net.interfaces configs))
+devices_within net configs is = names_hold (λ name. name.0 < length net.devices) (slot_keys net.interfaces configs) of_slot
+  where
+    some_is_none : (k : ℕ × List ℕ) → None ≡ Some k → ⊥
+    some_is_none k e = cc
+
+    of_slot : (slot : ℕ) (k : ℕ × List ℕ) → get_or (slot_keys net.interfaces configs) slot None ≡ Some k → k.0 < length net.devices
+    of_slot slot k e =
+        elim (cases_lt slot (2 * length net.interfaces)) [
+          | inl within ↦
+              let config = slot_config net.interfaces configs slot in
+              let device : k.0 ≡ (slot_interface net.interfaces slot).device =
+              key_device config.lists (slot_interface net.interfaces slot).device (slot_name net.interfaces configs slot) k (sym (key_read net.interfaces configs slot within) ∙ e) in
+              subst (λ n. n < length net.devices) (sym device) (device_in_range net is (slot / 2) (omega arith))
+          | inr past ↦
+              let none : get_or (slot_keys net.interfaces configs) slot None ≡ None =
+              get_or_past (slot_keys net.interfaces configs) slot None (omega (arith, length-map (range_with_len 0 (2 * length net.interfaces)) (slot_key net.interfaces configs), length-range_with_len 0 (2 * length net.interfaces))) in
+              absurd (some_is_none k (sym none ∙ e))
+        ]
+
+module _ {E : Type 0} (interfaces : List Interface) (configs : List Config) where
+  pub lets_by_result : (result : Result AppliedLists E) → IfOk result (λ a. a ≡ applied_of interfaces configs) → IfOk result (λ a. (slot : ℕ) → slot < 2 * length interfaces → (h : Header) → applied_lets a slot h ≡ slot_lets interfaces configs slot h)
+  lets_by_result (Ok a) e = λ slot within h. ap (λ q. applied_lets q slot h) e ∙ applied_is interfaces configs slot within h
+  lets_by_result (Err x) e = e
+
+  pub once_by_result : (result : Result AppliedLists E) → IfOk result (λ a. a ≡ applied_of interfaces configs) → IfOk result (λ a. AreDistinct same_place a.names)
+  once_by_result (Ok a) e = subst (λ (q : AppliedLists). AreDistinct same_place q.names) (sym e) (names_distinct (slot_keys interfaces configs))
+  once_by_result (Err x) e = e
+
+pub devices_by_result : {E : Type 0} (net : Plan) (configs : List Config) → IsNetwork net → (result : Result AppliedLists E) → IfOk result (λ a. a ≡ applied_of net.interfaces configs) → IfOk result (λ a. AllByRecursion (λ name. name.0 < length net.devices) a.names)
+devices_by_result net configs is (Ok a) e = subst (λ (q : AppliedLists). AllByRecursion (λ name. name.0 < length net.devices) q.names) (sym e) (devices_within net configs is)
+devices_by_result net configs is (Err x) e = e

@@ -1,61 +1,97 @@
 -- Blocks that test a field or two of valid headers.
-use Rattle.std.proofs.Common.{◌≡◌, ℕ, ◌<◌, ◌^◌, Bool, true, false, not, refl, ◌∙◌, ap, arith, eqb, nat_le}
-use Rattle.std.specs.Prelude.{◌&&◌, ◌||◌, ◌==◌}
+use Rattle.std.proofs.Common.{◌≡◌, ℕ, ◌≤◌, Bool, true, false, refl, ◌∙◌, arith, nat_le}
+use Rattle.std.specs.Prelude.{◌&&◌, ◌==◌}
+use Rattle.std.proofs.lemmas.Bool.{lt-ltb}
 use Rattle.std.proofs.lemmas.Bool.Decides.{nat_tests}
-use Rattle.np_space.specs.Block.{block_has}
+use Rattle.np_space.specs.Block.{block_has, everything, fields_have}
 use Rattle.np_space.specs.declared.blocks.Block.{Block}
-use Rattle.np_cut.specs.FieldTests.{TestsOnValid}
-use Rattle.np_space.specs.Bit.{has_bit}
-use Rattle.np_space.specs.Flag.{flag_number, same_flag}
-use Rattle.np_space.specs.Header.{is_valid_header}
-use Rattle.np_space.specs.Ternary.{pattern_has}
+use Rattle.np_space.specs.declared.patterns.Ternary.{Ternary}
+use Rattle.np_space.specs.declared.spans.Span.{Span}
+use Rattle.np_space.specs.Flag.{flag_number}
+use Rattle.np_space.specs.Header.{is_valid_header, HasWidths}
+use Rattle.np_space.specs.Patterns.{any_address}
+use Rattle.np_space.specs.Span.{span_from, span_has}
+use Rattle.np_space.specs.Ternary.{ternary_has}
 use Rattle.np_space.specs.declared.headers.Header.{Header}
-use Rattle.np_space.proofs.BitLemmas.{bit-not, bit-zero}
-use Rattle.np_space.proofs.PatternLemmas.{pattern_from}
+use Rattle.np_space.proofs.FlagLemmas.{flag_small}
+use Rattle.np_space.proofs.HeaderLemmas.{valid_widths}
+use Rattle.np_space.proofs.MadeLemmas.{any_address-has, span_from-has}
+use Rattle.np_cut.specs.FieldTests.{TestsOnValid}
 
--- every number of 32 bits is in the pattern without fixed bits
-pub all_wild : (x : ℕ) → x < 2 ^ 32 → pattern_has 0 0xffff_ffff x ≡ true
-all_wild x within = pattern_from 0 0xffff_ffff x within (λ i l. ap (λ t. t || same_flag (has_bit x i) (has_bit 0 i)) (bit-not 0 i (omega arith) l ∙ ap not (bit-zero i)))
+between : (high x : ℕ) → x ≤ high → (nat_le 0 x && nat_le x high) ≡ true
+between high x within = grind (arith, nat_tests)
 
--- what a number is compared with by a span of one number
-pub span_of_one : (n x : ℕ) → (nat_le n x && nat_le x n) ≡ eqb x n
-span_of_one n x = grind (arith, nat_tests)
+-- the span up to a number has every number up to it
+up_to : (high x : ℕ) → high ≤ 65535 → x ≤ high → span_has (span_from 0 high) x ≡ true
+up_to high x small within = span_from-has 0 high x (omega arith) small ∙ between high x within
 
--- the tests of the six fields, of which all but one or two pass
-pub first_alone : {s d p a b e : Bool} → d ≡ true → p ≡ true → a ≡ true → b ≡ true → e ≡ true → (s && d && p && a && b && e) ≡ s
-first_alone {s} ed ep ea eb ee = (λ i. s && ed i && ep i && ea i && eb i && ee i) ∙ by s where
-  by : (s : Bool) → (s && true && true && true && true && true) ≡ s
-  by false = refl
-  by true = refl
+-- each field of the widest block has the number of a valid header
+module _ (h : Header) (valid : is_valid_header h ≡ true) where
+  w : HasWidths h
+  w = valid_widths h valid
 
-pub second_alone : {s d p a b e : Bool} → s ≡ true → p ≡ true → a ≡ true → b ≡ true → e ≡ true → (s && d && p && a && b && e) ≡ d
-second_alone {s} {d} es ep ea eb ee = (λ i. es i && d && ep i && ea i && eb i && ee i) ∙ by d where
-  by : (d : Bool) → (true && d && true && true && true && true) ≡ d
-  by false = refl
-  by true = refl
+  any_src : ternary_has any_address h.src ≡ true
+  any_src = any_address-has h.src ∙ lt-ltb h.src 4294967296 w.src
 
-pub third_alone : {s d p a b e : Bool} → s ≡ true → d ≡ true → a ≡ true → b ≡ true → e ≡ true → (s && d && p && a && b && e) ≡ p
-third_alone {s} {d} {p} es ed ea eb ee = (λ i. es i && ed i && p && ea i && eb i && ee i) ∙ by p where
-  by : (p : Bool) → (true && true && p && true && true && true) ≡ p
-  by false = refl
-  by true = refl
+  any_dst : ternary_has any_address h.dst ≡ true
+  any_dst = any_address-has h.dst ∙ lt-ltb h.dst 4294967296 w.dst
 
-pub third_and_fourth : {s d b e : Bool} (p a : Bool) → s ≡ true → d ≡ true → b ≡ true → e ≡ true → (s && d && p && a && b && e) ≡ (p && a)
-third_and_fourth p a es ed eb ee = (λ i. es i && ed i && p && a && eb i && ee i) ∙ by p a where
-  by : (p a : Bool) → (true && true && p && a && true && true) ≡ (p && a)
-  by false a = refl
-  by true false = refl
-  by true true = refl
+  any_proto : span_has (span_from 0 255) h.proto ≡ true
+  any_proto = up_to 255 h.proto (omega arith) (omega (arith, w.proto))
 
-pub third_and_fifth : {s d a e : Bool} (p b : Bool) → s ≡ true → d ≡ true → a ≡ true → e ≡ true → (s && d && p && a && b && e) ≡ (p && b)
-third_and_fifth p b es ed ea ee = (λ i. es i && ed i && p && ea i && b && ee i) ∙ by p b where
-  by : (p b : Bool) → (true && true && p && true && b && true) ≡ (p && b)
-  by false b = refl
-  by true false = refl
-  by true true = refl
+  any_a : span_has (span_from 0 65535) h.a ≡ true
+  any_a = up_to 65535 h.a (omega arith) (omega (arith, w.a))
 
-pub last_alone : {s d p a b e : Bool} → s ≡ true → d ≡ true → p ≡ true → a ≡ true → b ≡ true → (s && d && p && a && b && e) ≡ e
-last_alone {e = e} es ed ep ea eb = λ i. es i && ed i && ep i && ea i && eb i && e
+  any_b : span_has (span_from 0 65535) h.b ≡ true
+  any_b = up_to 65535 h.b (omega arith) (omega (arith, w.b))
+
+  any_est : span_has (span_from 0 1) (flag_number h.est) ≡ true
+  any_est = up_to 1 (flag_number h.est) (omega arith) (flag_small h.est)
+
+  any_dscp : span_has (span_from 0 63) h.dscp ≡ true
+  any_dscp = up_to 63 h.dscp (omega arith) (omega (arith, w.dscp))
+
+  -- so with one field or two of its own a block tests these alone
+  pub src_alone : (src : Ternary) → fields_have src everything.dst everything.proto everything.a everything.b everything.est everything.dscp h ≡ ternary_has src h.src
+  src_alone src = (λ i. ternary_has src h.src && any_dst i && any_proto i && any_a i && any_b i && any_est i && any_dscp i) ∙ by (ternary_has src h.src) where
+    by : (t : Bool) → (t && true && true && true && true && true && true) ≡ t
+    by false = refl
+    by true = refl
+
+  pub dst_alone : (dst : Ternary) → fields_have everything.src dst everything.proto everything.a everything.b everything.est everything.dscp h ≡ ternary_has dst h.dst
+  dst_alone dst = (λ i. any_src i && ternary_has dst h.dst && any_proto i && any_a i && any_b i && any_est i && any_dscp i) ∙ by (ternary_has dst h.dst) where
+    by : (t : Bool) → (true && t && true && true && true && true && true) ≡ t
+    by false = refl
+    by true = refl
+
+  pub proto_alone : (proto : Span) → fields_have everything.src everything.dst proto everything.a everything.b everything.est everything.dscp h ≡ span_has proto h.proto
+  proto_alone proto = (λ i. any_src i && any_dst i && span_has proto h.proto && any_a i && any_b i && any_est i && any_dscp i) ∙ by (span_has proto h.proto) where
+    by : (t : Bool) → (true && true && t && true && true && true && true) ≡ t
+    by false = refl
+    by true = refl
+
+  pub proto_and_a : (proto a : Span) → fields_have everything.src everything.dst proto a everything.b everything.est everything.dscp h ≡ (span_has proto h.proto && span_has a h.a)
+  proto_and_a proto a = (λ i. any_src i && any_dst i && span_has proto h.proto && span_has a h.a && any_b i && any_est i && any_dscp i) ∙ by (span_has proto h.proto) (span_has a h.a) where
+    by : (t u : Bool) → (true && true && t && u && true && true && true) ≡ (t && u)
+    by false u = refl
+    by true false = refl
+    by true true = refl
+
+  pub proto_and_b : (proto b : Span) → fields_have everything.src everything.dst proto everything.a b everything.est everything.dscp h ≡ (span_has proto h.proto && span_has b h.b)
+  proto_and_b proto b = (λ i. any_src i && any_dst i && span_has proto h.proto && any_a i && span_has b h.b && any_est i && any_dscp i) ∙ by (span_has proto h.proto) (span_has b h.b) where
+    by : (t u : Bool) → (true && true && t && true && u && true && true) ≡ (t && u)
+    by false u = refl
+    by true false = refl
+    by true true = refl
+
+  pub est_alone : (est : Span) → fields_have everything.src everything.dst everything.proto everything.a everything.b est everything.dscp h ≡ span_has est (flag_number h.est)
+  est_alone est = (λ i. any_src i && any_dst i && any_proto i && any_a i && any_b i && span_has est (flag_number h.est) && any_dscp i) ∙ by (span_has est (flag_number h.est)) where
+    by : (t : Bool) → (true && true && true && true && true && t && true) ≡ t
+    by false = refl
+    by true = refl
+
+  pub dscp_alone : (dscp : Span) → fields_have everything.src everything.dst everything.proto everything.a everything.b everything.est dscp h ≡ span_has dscp h.dscp
+  dscp_alone dscp = λ i. any_src i && any_dst i && any_proto i && any_a i && any_b i && any_est i && span_has dscp h.dscp
 
 -- on valid headers a block tests what its fields test there
 pub tests_by : (block : Block) (fields test : Header → Bool) → ((h : Header) → block_has block h ≡ fields h) → ((h : Header) → is_valid_header h ≡ true → fields h ≡ test h) → TestsOnValid block test
@@ -64,7 +100,7 @@ tests_by block fields test has on h = by (is_valid_header h) (has h) (on h) wher
   by false e f = refl
   by true e f = e ∙ f refl
 
--- the number of a set flag is 1
-pub flag_is_one : (e : Bool) → (flag_number e == 1) ≡ e
-flag_is_one false = refl
-flag_is_one true = refl
+-- a flag is set where its number is 1
+pub one_flag : (e : Bool) → (nat_le 1 (flag_number e) && nat_le (flag_number e) 1) ≡ e
+one_flag false = refl
+one_flag true = refl

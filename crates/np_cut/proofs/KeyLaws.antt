@@ -1,15 +1,20 @@
 -- Keys of slots, each once, and their places.
-use Rattle.std.proofs.Common.{◌≡◌, ℕ, zero, suc, ◌<◌, Bool, true, false, List, [], ◌∷◌, length, get_or, fold, Option, Some, None, refl, sym, ◌∙◌, eq-eqb, arith, rules}
-use Rattle.std.specs.Prelude.{◌&&◌, ◌||◌, ◌==◌, IfSome, position}
-use Rattle.std.specs.List.{list_any, position_or_len}
+use Rattle.std.proofs.Common.{◌≡◌, ℕ, zero, suc, ◌<◌, Bool, true, false, List, [], ◌∷◌, ◌++◌, length, get_or, take, fold, Option, Some, None, refl, sym, ◌∙◌, ap, subst, eq-eqb, arith, rules, append_assoc}
+use Rattle.std.specs.Prelude.{◌&&◌, ◌||◌, ◌==◌, IfSome, option_and_then, option_map, position}
+use Rattle.std.specs.List.{AllByRecursion, list_any, position_or_len}
+use Rattle.std.specs.Map.{lookup}
 use Rattle.std.specs.Str.{bytes_eq}
 use Rattle.std.proofs.lemmas.Bool.{eqb-true, lt-ltb}
 use Rattle.std.proofs.lemmas.Cmp.{nat_list_eq_equiv}
 use Rattle.std.proofs.lemmas.List.Folds.{list_any-append}
 use Rattle.std.proofs.lemmas.List.Quantifiers.{position-Some}
 use Rattle.std.proofs.lemmas.Slice.Eq.{bytes_eq-Decides}
-use Rattle.np_net.specs.Distinct.{same_place}
-use Rattle.np_cut.specs.Applying.{with_key, with_slot_key, names_of_keys, place_in}
+use Rattle.np_acl.specs.declared.kinds.Way.{Way}
+use Rattle.np_acl.specs.declared.kinds.Way.TheVariants.{Inward, Outward}
+use Rattle.np_acl.specs.declared.entries.Entry.{Entry}
+use Rattle.np_acl_read.specs.Groups.{no_groups}
+use Rattle.np_net.specs.Distinct.{AreDistinct, AreNewAfter, same_place}
+use Rattle.np_cut.specs.Applying.{key_in, list_with_entries, named_key, names_of_keys, place_in, with_key, with_slot_key}
 
 pub both_true : (a b : Bool) → (a && b) ≡ true → (a ≡ true) × (b ≡ true)
 both_true true b e = (refl, e)
@@ -97,3 +102,72 @@ place_within keys (Some k) = by (position (same_place k) keys) refl
     by : (o : Option ℕ) → position (same_place k) keys ≡ o → IfSome o (λ n. n < length keys)
     by None e = search rules
     by (Some n) e = (position-Some (same_place k) keys n (0, []) e).0
+
+-- ---- keys without repeats
+
+no_more : {X : Type 0} (xs : List X) → xs ++ [] ≡ xs
+no_more [] = refl
+no_more (x ∷ xs) = ap (λ l. x ∷ l) (no_more xs)
+
+-- items without repeats with one more, to which none of them is equal
+distinct_more : {X : Type 0} (eq : X → X → Bool) (seen xs : List X) (x : X) → AreNewAfter eq seen xs → list_any (eq x) (seen ++ xs) ≡ false → AreNewAfter eq seen (xs ++ x ∷ [])
+distinct_more eq seen [] x new none = (ap (λ l. list_any (eq x) l) (sym (no_more seen)) ∙ none, tt)
+distinct_more eq seen (y ∷ xs) x new none =
+    (new.0, distinct_more eq (seen ++ y ∷ []) xs x new.1 (ap (λ l. list_any (eq x) l) (append_assoc seen (y ∷ []) xs) ∙ none))
+
+-- the keys of slots, each once, are without repeats
+keys_distinct : (keys : List Key) (xs : List (Option Key)) → AreDistinct same_place keys → AreDistinct same_place (fold with_slot_key keys xs)
+keys_distinct keys [] new = new
+keys_distinct keys (None ∷ xs) new = keys_distinct keys xs new
+keys_distinct keys (Some x ∷ xs) new = keys_distinct (with_key keys x) xs (by (list_any (same_place x) keys) refl)
+  where
+    by : (b : Bool) → list_any (same_place x) keys ≡ b → AreDistinct same_place (with_key keys x)
+    by true e = rw e new
+    by false e = rw e (distinct_more same_place [] keys x new e)
+
+pub names_distinct : (xs : List (Option Key)) → AreDistinct same_place (names_of_keys xs)
+names_distinct xs = keys_distinct [] xs tt
+
+-- an item of a list without repeats is equal to none before it
+new_at : {X : Type 0} (eq : X → X → Bool) (seen xs : List X) (n : ℕ) (d : X) → AreNewAfter eq seen xs → n < length xs → list_any (eq (get_or xs n d)) (seen ++ take n xs) ≡ false
+new_at eq seen [] n d new within = absurd (omega arith)
+new_at eq seen (x ∷ xs) zero d new within = ap (λ l. list_any (eq x) l) (no_more seen) ∙ new.0
+new_at eq seen (x ∷ xs) (suc n) d new within =
+    ap (λ l. list_any (eq (get_or xs n d)) l) (sym (append_assoc seen (x ∷ []) (take n xs)))
+    ∙ new_at eq (seen ++ x ∷ []) xs n d new.1 (omega arith)
+
+pub key_is_new : (keys : List Key) (n : ℕ) (d : Key) → AreDistinct same_place keys → n < length keys → list_any (same_place (get_or keys n d)) (take n keys) ≡ false
+key_is_new keys n d new within = new_at same_place [] keys n d new within
+
+-- what holds of the key of each slot holds of all keys
+keys_hold : (P : Key → Type 0) (keys : List Key) (xs : List (Option Key)) → AllByRecursion P keys → ((slot : ℕ) (k : Key) → get_or xs slot None ≡ Some k → P k) → AllByRecursion P (fold with_slot_key keys xs)
+keys_hold P keys [] all each = all
+keys_hold P keys (None ∷ xs) all each = keys_hold P keys xs all (λ slot k e. each (suc slot) k e)
+keys_hold P keys (Some x ∷ xs) all each = keys_hold P (with_key keys x) xs (by (list_any (same_place x) keys) refl) (λ slot k e. each (suc slot) k e)
+  where
+    more : (ks : List Key) → AllByRecursion P ks → P x → AllByRecursion P (ks ++ x ∷ [])
+    more [] all px = (px, tt)
+    more (k ∷ ks) all px = (all.0, more ks all.1 px)
+
+    by : (b : Bool) → list_any (same_place x) keys ≡ b → AllByRecursion P (with_key keys x)
+    by true e = rw e all
+    by false e = rw e (more keys all (each zero x refl))
+
+pub names_hold : (P : Key → Type 0) (xs : List (Option Key)) → ((slot : ℕ) (k : Key) → get_or xs slot None ≡ Some k → P k) → AllByRecursion P (names_of_keys xs)
+names_hold P xs each = keys_hold P [] xs tt each
+
+-- ---- devices
+
+-- a device without a configuration applies nothing
+pub no_key : (device : ℕ) (interface : List ℕ) (way : Way) → key_in (record { lists = []; groups = no_groups }) device interface way ≡ None
+no_key device interface Inward = refl
+no_key device interface Outward = refl
+
+-- a key is of the device that it is asked of
+pub key_device : (lists : List (List ℕ × List Entry)) (device : ℕ) (name : Option (List ℕ)) (k : Key) → option_and_then (named_key lists device) name ≡ Some k → k.0 ≡ device
+key_device lists device None k e = cc
+key_device lists device (Some name) k e = by (list_with_entries lists name) e
+  where
+    by : (list : Option (List Entry)) → option_map (λ l. (device, name)) list ≡ Some k → k.0 ≡ device
+    by None e = cc
+    by (Some l) e = cc

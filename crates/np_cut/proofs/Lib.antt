@@ -2,5 +2,4 @@ pub mod ApplyLaws
 pub mod CuttingLaws
 pub mod FieldLaws
 pub mod FilterLaws
-pub mod GroupLaws
 pub mod KeyLaws

@@ -1,7 +1,5 @@
 pub mod Applying
 pub mod Cutting
-pub mod DeviceLists
 pub mod FieldTests
 pub mod FilterCuts
-pub mod FirstGroups
-pub mod Posture
+pub mod AppliedLists

@@ -11,7 +11,7 @@ use std::marker::Model;
 
 /// The lists that configurations apply.
 ///
-/// It is known that each place in `at` has a list.
+/// It is known that each place in `at` has a list, and that `names` has as many items as `lists`.
 #[derive(Drop)]
 pub struct Applied {
     /// The lists that are applied at some slot, in the order of the first slot of each.
@@ -24,9 +24,9 @@ pub struct Applied {
 }
 
 impl Model for Applied {
-    ghost use Rattle.np_cut.specs.Posture.{Posture, IsPosture};
+    ghost use Rattle.np_cut.specs.AppliedLists.{AppliedLists, IsApplied};
 
-    ghost Value = { Posture };
+    ghost Value = { AppliedLists };
 
     ghost view = { λ applied. record {
       lists = applied.lists;
@@ -34,20 +34,20 @@ impl Model for Applied {
       at = applied.at;
     } };
 
-    ghost invariant = { λ applied. IsPosture record {
+    ghost invariant = { λ applied. IsApplied record {
       lists = applied.lists;
       names = applied.names;
       at = applied.at;
     } };
 }
 
-ghost use Rattle.np_cut.specs.Posture.{posture_lets};
+ghost use Rattle.np_cut.specs.AppliedLists.{applied_lets};
 
 /// Whether a slot lets a header cross: what the list that is applied there permits, and everything
 /// where there is none.
 pub fn lets(applied: &Applied, slot: usize, h: &Header) -> bool
     requires { slot < length applied.now.at }
-    ensures { result ≡ posture_lets applied.now slot h.now }
+    ensures { result ≡ applied_lets applied.now slot h.now }
 {
     match applied.at.as_slice()[slot] {
         Some(place) => applied.lists.as_slice()[place].permits(h),

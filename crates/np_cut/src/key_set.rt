@@ -4,12 +4,19 @@ ghost use Rattle.std.specs.Prelude.{◌≡◌, ◌<◌, [], length, position, If
 ghost use Rattle.np_net.specs.Distinct.{same_place};
 ghost use Rattle.np_cut.specs.Applying.{with_key, with_slot_key, names_of_keys, place_in};
 
-use crate::copies::copy_key;
 use indexmap::IndexSet;
 use np_net::DevId;
 use np_text::Name;
 use std::alloc::{AllocError, Global};
 use std::marker::Model;
+
+/// The same device and the same name.
+pub fn copy_key(alloc: Global, key: &(DevId, Name)) -> Result<(DevId, Name), AllocError>
+    ensures { IfOk result (λ copy. copy ≡ key.now) }
+{
+    let name = key.1.copy(alloc)?;
+    Ok((key.0, name))
+}
 
 /// Devices' lists by device and name, in the order in which they were added.
 #[derive(Drop)]
@@ -34,7 +41,7 @@ impl KeySet {
         }
     }
 
-    // Adds a key behind the others, where it isn't there.
+    // Adds a key after the others, where it isn't there.
     fn add(&mut self, key: (DevId, Name)) -> Result<(), AllocError>
         ensures { OnOk result (self.new ≡ with_key self.old key) }
     {

@@ -1,44 +1,23 @@
-//! The lists that devices apply at slots, by their devices and names.
+//! The lists of configurations by their devices and names: which of them slots apply, and taking them
+//! out.
 
-ghost use Rattle.std.specs.Prelude.{◌≡◌, ◌<◌, ◌/◌, ◌%◌, ◌*◌, length, map, IfOk, is_some};
+ghost use Rattle.std.specs.Prelude.{◌≡◌, ◌<◌, ◌/◌, ◌*◌, ℕ, List as ListOf, [], false, length, map, unwrap_or, IfOk, is_some};
+ghost use Rattle.std.specs.Map.{lookup};
+ghost use Rattle.std.specs.Str.{bytes_eq};
+ghost use Rattle.np_net.specs.Distinct.{AreDistinct, same_place};
 ghost use Rattle.std.specs.List.{range_with_len};
-ghost use Rattle.np_cut.specs.Applying.{list_with_entries};
-ghost use Rattle.np_cut.specs.DeviceLists as in_devices;
+ghost use Rattle.np_cut.specs.Applying as applying;
 
-use crate::device_lists::DeviceLists;
-use crate::first_groups::first_groups;
+use np_acl::{List, Way};
 use np_acl_read::{Config, Lists};
 use np_net::{DevId, Interface};
 use np_text::Name;
+use sqlite_items::Items;
 use std::alloc::{AllocError, Global};
-
-fn device_lists(alloc: Global, config: Config) -> Result<DeviceLists, AllocError>
-    ensures { IfOk result (λ lists. lists ≡ in_devices.device_lists config) }
-{
-    let groups = first_groups(alloc, config.groups.as_slice())?;
-    Ok(DeviceLists {
-        lists: config.lists,
-        groups,
-    })
-}
-
-/// The lists of each device, and which of them it applies.
-pub(crate) fn lists_of_devices(
-    alloc: Global,
-    configs: Vec<Config>,
-) -> Result<Vec<DeviceLists>, AllocError>
-    ensures { IfOk result (λ devices. devices.items ≡ map in_devices.device_lists configs.items) }
-{
-    let mut devices = Vec::new(alloc);
-    for config in configs {
-        devices.push(device_lists(alloc, config)?)?;
-    }
-    Ok(devices)
-}
 
 // Whether a list is defined and has entries.
 fn has_entries(lists: &Lists, name: &Name) -> bool
-    ensures { result ≡ is_some (list_with_entries lists.now name.now) }
+    ensures { result ≡ is_some (applying.list_with_entries lists.now name.now) }
 {
     match lists.named(name) {
         Some(list) => !list.as_slice().is_empty(),
@@ -46,46 +25,64 @@ fn has_entries(lists: &Lists, name: &Name) -> bool
     }
 }
 
-fn named_key(lists: &Lists, device: DevId, name: Name) -> Option<(DevId, Name)>
-    ensures { result ≡ in_devices.named_key lists.now device name }
+// A device and a list's name, where the list is defined and has entries.
+fn named_key(
+    alloc: Global,
+    lists: &Lists,
+    device: DevId,
+    name: &Name,
+) -> Result<Option<(DevId, Name)>, AllocError>
+    ensures { IfOk result (λ key. key ≡ applying.named_key lists.now device name.now) }
 {
-    if has_entries(lists, &name) {
-        Some((device, name))
+    if has_entries(lists, name) {
+        let name = name.copy(alloc)?;
+        Ok(Some((device, name)))
     } else {
-        None
+        Ok(None)
     }
 }
 
-// The device and the name of the list that is applied at an interface.
-fn key_at(
+// The device and the name of the list that its configuration applies at an interface.
+fn key_in(
     alloc: Global,
-    lists: &DeviceLists,
+    config: &Config,
     device: DevId,
     interface: &Name,
-    inward: bool,
+    way: Way,
 ) -> Result<Option<(DevId, Name)>, AllocError>
-    ensures { IfOk result (λ key. key ≡ in_devices.key_at lists.now device (interface.now, inward)) }
+    ensures { IfOk result (λ key. key ≡ applying.key_in config.now device interface.now way) }
 {
-    match lists.groups.name(alloc, interface, inward)? {
-        Some(name) => Ok(named_key(&lists.lists, device, name)),
+    match config.groups.list_at(interface, way) {
+        Some(name) => named_key(alloc, &config.lists, device, name),
         None => Ok(None),
     }
 }
 
+fn slot_way(slot: usize) -> Way
+    ensures { result ≡ applying.slot_way slot }
+{
+    if slot % 2 == 0 {
+        Way::Inward
+    } else {
+        Way::Outward
+    }
+}
+
 // The device and the name of the list that is applied at a slot.
+#[tactic(auto, using(crate::proofs::KeyLaws::no_key))]
 fn key_of_slot(
     alloc: Global,
     interfaces: &[Interface],
-    devices: &[DeviceLists],
+    configs: &[Config],
     slot: usize,
 ) -> Result<Option<(DevId, Name)>, AllocError>
     requires { slot / 2 < length interfaces.now }
-    ensures { IfOk result (λ key. key ≡ in_devices.key_of_slot interfaces.now devices.now slot) }
+    ensures { IfOk result (λ key. key ≡ applying.slot_key interfaces.now configs.now slot) }
 {
     let interface = &interfaces[slot / 2];
-    let inward = slot % 2 == 0;
-    match devices.get(usize::from(interface.device)) {
-        Some(lists) => key_at(alloc, lists, interface.device, &interface.name, inward),
+    let way = slot_way(slot);
+    match configs.get(usize::from(interface.device)) {
+        Some(config) => key_in(alloc, config, interface.device, &interface.name, way),
         None => Ok(None),
     }
 }
@@ -94,15 +91,55 @@ fn key_of_slot(
 pub(crate) fn keys_of_slots(
     alloc: Global,
     interfaces: &[Interface],
-    devices: &[DeviceLists],
+    configs: &[Config],
     slots: usize,
 ) -> Result<Vec<Option<(DevId, Name)>>, AllocError>
     requires { slots ≡ 2 * length interfaces.now }
-    ensures { IfOk result (λ keys. keys.items ≡ map (in_devices.key_of_slot interfaces.now devices.now) (range_with_len 0 slots)) }
+    ensures { IfOk result (λ keys. keys.items ≡ map (applying.slot_key interfaces.now configs.now) (range_with_len 0 slots)) }
 {
     let mut keys = Vec::new(alloc);
     for slot in 0..slots {
-        keys.push(key_of_slot(alloc, interfaces, devices, slot)?)?;
+        keys.push(key_of_slot(alloc, interfaces, configs, slot)?)?;
     }
     Ok(keys)
+}
+
+// Takes the list of this name out; one without entries where it isn't defined.
+fn take_named(alloc: Global, lists: &mut Lists, name: &Name) -> List
+    ensures list { result ≡ unwrap_or (lookup (bytes_eq name.now) lists.old) [] }
+    ensures others { (other : ListOf ℕ) → bytes_eq name.now other ≡ false → lookup (bytes_eq other) lists.new ≡ lookup (bytes_eq other) lists.old }
+{
+    match lists.take(name) {
+        Some(list) => list,
+        None => List::new(alloc),
+    }
+}
+
+// Takes the list of a device and a name out of the device's configuration.
+fn take_list(alloc: Global, configs: &mut [Config], key: &(DevId, Name)) -> List
+    ensures list { result ≡ applying.key_list configs.old key.now }
+    ensures others { (other : ℕ × ListOf ℕ) → same_place other key.now ≡ false → applying.key_list configs.new other ≡ applying.key_list configs.old other }
+{
+    let device = usize::from(key.0);
+    if device < configs.len() {
+        take_named(alloc, &mut configs[device].lists, &key.1)
+    } else {
+        List::new(alloc)
+    }
+}
+
+/// Takes the lists of keys out of the configurations.
+pub(crate) fn take_lists(
+    alloc: Global,
+    configs: &mut [Config],
+    keys: &[(DevId, Name)],
+) -> Result<Items<List>, AllocError>
+    requires { AreDistinct same_place keys.now }
+    ensures { IfOk result (λ lists. lists ≡ map (applying.key_list configs.old) keys.now) }
+{
+    let mut lists = Items::new(alloc);
+    for key in keys {
+        lists.push(take_list(alloc, configs, key))?;
+    }
+    Ok(lists)
 }

@@ -3,11 +3,8 @@
 
 mod applied;
 mod applying;
-mod copies;
-mod device_lists;
 mod field_blocks;
 mod filtering;
-mod first_groups;
 mod key_set;
 mod keys;
 mod list_regions;
@@ -16,12 +13,5 @@ mod pred_regions;
 pub use applied::{Applied, lets};
 pub use applying::apply;
 pub use filtering::filter_cuts;
-pub use list_regions::list_region;
+pub use list_regions::{entry_region, list_region};
 pub use pred_regions::pred_region;
-
-#[cfg(test)]
-mod applied_tests;
-#[cfg(test)]
-mod pred_tests;
-#[cfg(test)]
-mod tests;

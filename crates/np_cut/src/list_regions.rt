@@ -1,6 +1,6 @@
 //! The region of an access list.
 
-ghost use Rattle.std.specs.Prelude.{◌≡◌, ◌↔◌, ◌∷◌, [], Bool, false, ◌&&◌, ◌||◌, not, ℕ, ◌≤◌, nat_le, Option, IsNone, IfSome, IfOk};
+ghost use Rattle.std.specs.Prelude.{◌≡◌, ◌↔◌, ◌∷◌, [], Bool, false, ◌&&◌, ◌||◌, not, ℕ, ◌≤◌, nat_le, Option, IsNone, IfSome, IfOk, if◌then◌else◌};
 ghost use Rattle.np_space.specs.Flag.{flag_number, some_has};
 ghost use Rattle.np_space.specs.Header.{is_valid_header};
 ghost use Rattle.np_space.specs.Block.{block_has};
@@ -31,12 +31,13 @@ fn span_to(span: &Span, most: u16) -> Option<Span>
 }
 
 // The headers that the entry matches with these spans for its ports, as a block; none where it
-// matches no protocol or no flag.
+// matches no protocol, no flag or no code point.
 fn entry_block(entry: &Entry, a: Span, b: Span) -> Option<Block>
     ensures { (h : Header) → (is_valid_header h && some_has block_has result h) ≡ (is_valid_header h && matches_with entry.now (a ∷ []) (b ∷ []) h) }
 {
     let proto = span_to(&entry.proto, 255)?;
     let est = span_to(&entry.est, 1)?;
+    let dscp = span_to(&entry.dscp, 63)?;
     Some(Block {
         src: entry.src,
         dst: entry.dst,
@@ -44,6 +45,7 @@ fn entry_block(entry: &Entry, a: Span, b: Span) -> Option<Block>
         a,
         b,
         est,
+        dscp,
     })
 }
 
@@ -89,8 +91,9 @@ fn with_source<S: Regions>(
     Ok(all)
 }
 
-// The valid headers that the entry matches.
-fn entry_region<S: Regions>(store: &mut S, entry: &Entry) -> Result<S::R, AllocError>
+/// Exactly the valid headers that the entry matches. Fails only for want of memory. It joins a block
+/// for each pair of a span of `a` and a span of `b`.
+pub fn entry_region<S: Regions>(store: &mut S, entry: &Entry) -> Result<S::R, AllocError>
     ensures kept { KeepsRegions S.fits S.has_header store.old store.new }
     ensures fits { IfOk result (λ x. S.fits store.new x) }
     ensures exact { IfOk result (λ x. (h : Header) → S.has_header store.new x h ≡ (is_valid_header h && entry_matches entry.now h)) }
@@ -102,49 +105,46 @@ fn entry_region<S: Regions>(store: &mut S, entry: &Entry) -> Result<S::R, AllocE
     Ok(all)
 }
 
-// What is permitted after an entry that matches `matched` of what is left.
-fn permitted_after<S: Regions>(
+// The headers that are permitted once an entry stands before others: those that it matches as it says, and
+// the rest as the others say.
+fn with_entry_before<S: Regions>(
     store: &mut S,
-    permitted: S::R,
-    rest: &S::R,
+    others: &S::R,
     matched: &S::R,
     permit: bool,
 ) -> Result<S::R, AllocError>
-    requires permitted { S.fits store.old permitted }
-    requires rest { S.fits store.old rest.now }
+    requires others { S.fits store.old others.now }
     requires matched { S.fits store.old matched.now }
     ensures kept { KeepsRegions S.fits S.has_header store.old store.new }
     ensures fits { IfOk result (λ x. S.fits store.new x) }
-    ensures exact { IfOk result (λ x. (h : Header) → S.has_header store.new x h ≡ (S.has_header store.old permitted h || (permit && (S.has_header store.old rest.now h && S.has_header store.old matched.now h)))) }
+    ensures exact { IfOk result (λ x. (h : Header) → S.has_header store.new x h ≡ (if S.has_header store.old matched.now h then permit else S.has_header store.old others.now h)) }
 {
     if permit {
-        let more = store.meet(rest, matched)?;
-        let joined = store.join(&permitted, &more)?;
-        Ok(joined)
+        store.join(matched, others)
     } else {
-        Ok(permitted)
+        store.minus(others, matched)
     }
 }
 
-// What the entries permit of the valid headers: each entry decides the headers that no earlier one
-// matched. The region of those that are left is cut once for each entry.
+// What entries permit of the valid headers. The last entry comes first: what stands before an entry decides
+// over it, so each entry costs one join or one difference, of what it matches and what the later ones permit.
 fn entries_region<S: Regions>(store: &mut S, entries: &[Entry]) -> Result<S::R, AllocError>
     ensures kept { KeepsRegions S.fits S.has_header store.old store.new }
     ensures fits { IfOk result (λ x. S.fits store.new x) }
     ensures exact { IfOk result (λ x. (h : Header) → S.has_header store.new x h ≡ (is_valid_header h && first_says entries.now h)) }
 {
     let mut permitted = store.none();
-    let mut rest = store.whole()?;
-    for entry in entries {
+    let mut left = entries;
+    while let [before @ .., entry] = left {
         let matched = entry_region(store, entry)?;
-        permitted = permitted_after(store, permitted, &rest, &matched, entry.permit)?;
-        rest = store.minus(&rest, &matched)?;
+        permitted = with_entry_before(store, &permitted, &matched, entry.permit)?;
+        left = before;
     }
     Ok(permitted)
 }
 
 /// Exactly the valid headers that the list permits. Fails only for want of memory. Each entry of the
-/// list is looked at once.
+/// list is looked at once, and costs one join or one difference of regions beside its own region.
 pub fn list_region<S: Regions>(
     _alloc: Global,
     store: &mut S,

@@ -1,19 +1,20 @@
 //! The region of a predicate.
 
 ghost use Rattle.std.specs.Prelude.{◌≡◌, ◌==◌, ◌&&◌, ◌||◌, not, false, IfOk};
-ghost use Rattle.std.specs.List.{list_any};
 ghost use Rattle.np_space.specs.Header.{is_valid_header};
 ghost use Rattle.np_space.specs.Block.{block_has};
 ghost use Rattle.np_space.specs.Span.{span_has};
-ghost use Rattle.np_space.specs.Ternary.{ternary_has};
+ghost use Rattle.np_space.specs.Patterns.{any_pattern_has};
 ghost use Rattle.np_space.specs.declared.headers.Header.{Header};
+ghost use Rattle.np_pred.specs.Dscp.{dscp_has};
 ghost use Rattle.np_pred.specs.Meaning.{has_ports, pred_holds};
 ghost use Rattle.np_region.specs.Keeping.{KeepsRegions};
 
 use crate::field_blocks::{
-    of_destination, of_established, of_first_number, of_protocol, of_second_number, of_source, only,
+    of_code_points, of_destination, of_established, of_first_number, of_protocol, of_second_number,
+    of_source,
 };
-use np_pred::Pred;
+use np_pred::{DscpSpan, Pred};
 use np_region::Regions;
 use np_space::{Block, Span, Ternary};
 use std::alloc::{AllocError, Global};
@@ -33,7 +34,7 @@ fn of_two<S: Regions>(store: &mut S, first: &Block, second: &Block) -> Result<S:
 fn sources<S: Regions>(store: &mut S, patterns: &[Ternary]) -> Result<S::R, AllocError>
     ensures kept { KeepsRegions S.fits S.has_header store.old store.new }
     ensures fits { IfOk result (λ x. S.fits store.new x) }
-    ensures exact { IfOk result (λ x. (h : Header) → S.has_header store.new x h ≡ (is_valid_header h && list_any (λ p. ternary_has p h.src) patterns.now)) }
+    ensures exact { IfOk result (λ x. (h : Header) → S.has_header store.new x h ≡ (is_valid_header h && any_pattern_has patterns.now h.src)) }
 {
     let mut all = store.none();
     for pattern in patterns {
@@ -47,7 +48,7 @@ fn sources<S: Regions>(store: &mut S, patterns: &[Ternary]) -> Result<S::R, Allo
 fn destinations<S: Regions>(store: &mut S, patterns: &[Ternary]) -> Result<S::R, AllocError>
     ensures kept { KeepsRegions S.fits S.has_header store.old store.new }
     ensures fits { IfOk result (λ x. S.fits store.new x) }
-    ensures exact { IfOk result (λ x. (h : Header) → S.has_header store.new x h ≡ (is_valid_header h && list_any (λ p. ternary_has p h.dst) patterns.now)) }
+    ensures exact { IfOk result (λ x. (h : Header) → S.has_header store.new x h ≡ (is_valid_header h && any_pattern_has patterns.now h.dst)) }
 {
     let mut all = store.none();
     for pattern in patterns {
@@ -89,7 +90,7 @@ fn icmp_type<S: Regions>(store: &mut S, number: u8) -> Result<S::R, AllocError>
     ensures fits { IfOk result (λ x. S.fits store.new x) }
     ensures exact { IfOk result (λ x. (h : Header) → S.has_header store.new x h ≡ (is_valid_header h && (h.proto == 1 && h.a == number))) }
 {
-    store.of_block(&of_first_number(1, only(u16::from(number))))
+    store.of_block(&of_first_number(1, Span::only(u16::from(number))))
 }
 
 // The valid headers of ICMP with this code.
@@ -98,7 +99,16 @@ fn icmp_code<S: Regions>(store: &mut S, number: u8) -> Result<S::R, AllocError>
     ensures fits { IfOk result (λ x. S.fits store.new x) }
     ensures exact { IfOk result (λ x. (h : Header) → S.has_header store.new x h ≡ (is_valid_header h && (h.proto == 1 && h.b == number))) }
 {
-    store.of_block(&of_second_number(1, only(u16::from(number))))
+    store.of_block(&of_second_number(1, Span::only(u16::from(number))))
+}
+
+// The valid headers with one of these code points.
+fn code_points<S: Regions>(store: &mut S, values: DscpSpan) -> Result<S::R, AllocError>
+    ensures kept { KeepsRegions S.fits S.has_header store.old store.new }
+    ensures fits { IfOk result (λ x. S.fits store.new x) }
+    ensures exact { IfOk result (λ x. (h : Header) → S.has_header store.new x h ≡ (is_valid_header h && dscp_has values h.dscp)) }
+{
+    store.of_block(&of_code_points(values.span()))
 }
 
 // The valid headers for which an operand doesn't hold, by its region.
@@ -128,6 +138,7 @@ pub fn pred_region<S: Regions>(alloc: Global, store: &mut S, p: &Pred) -> Result
         Pred::DstPort(ports) => destination_ports(store, *ports),
         Pred::IcmpType(number) => icmp_type(store, *number),
         Pred::IcmpCode(number) => icmp_code(store, *number),
+        Pred::Dscp(values) => code_points(store, *values),
         Pred::Established => store.of_block(&of_established()),
         Pred::Not(operand) => {
             let region = pred_region(alloc, store, operand.get())?;

@@ -1,8 +1,11 @@
-//! Tests of the ground layer: files and output, texts, lines, headers, regions and atoms.
+//! Tests of the ground layer: files and output, texts, lines, headers, regions, atoms, sets of atoms
+//! and stacks.
 #![tactic(auto)]
 
 #[cfg(test)]
 mod atoms;
+#[cfg(test)]
+mod atomset;
 #[cfg(test)]
 mod lines;
 #[cfg(test)]
@@ -11,5 +14,7 @@ mod outside;
 mod region;
 #[cfg(test)]
 mod space;
+#[cfg(test)]
+mod stack;
 #[cfg(test)]
 mod text;

@@ -21,6 +21,14 @@ fn header(proto: u8, a: u16, b: u16, est: bool, dscp: u8) -> Header {
     }
 }
 
+fn in_two(address: u32) -> bool {
+    any_pattern_has(&[Ternary::host(LAB), Ternary::prefix(LAB, 24)], address)
+}
+
+fn in_none(address: u32) -> bool {
+    any_pattern_has(&[], address)
+}
+
 #[test]
 fn patterns_have_their_addresses(rt: HostRuntime) {
     let lab = Ternary::of(LAB | 0x0000_4200, 0x0000_ff00);
@@ -43,13 +51,8 @@ fn patterns_have_their_addresses(rt: HostRuntime) {
             "{address} by prefix"
         );
         assert_eq!(rt; Ternary::any().has(address), true, "{address} in all");
-        let two = [Ternary::host(LAB), Ternary::prefix(LAB, 24)];
-        assert_eq!(rt;
-            any_pattern_has(&two, address),
-            one,
-            "{address} in one of two"
-        );
-        assert_eq!(rt; any_pattern_has(&[], address), false, "{address} in none");
+        assert_eq!(rt; in_two(address), one, "{address} in one of two");
+        assert_eq!(rt; in_none(address), false, "{address} in none");
     }
     assert_eq!(rt; lab.value, LAB);
     assert_eq!(rt; lab.wild, 0x0000_ff00);

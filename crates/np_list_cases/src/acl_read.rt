@@ -316,9 +316,18 @@ const CODE_POINTS: [(&str, u16, u16); 7] = [
     ("permit udp any any eq 53", 0, 63),
 ];
 
-/// The groups of `GROUPS`, in the order in which their interfaces and ways first appear.
+/// Lines that apply lists: at `e0` list 100 is applied inward before them.
 const GROUPS: &str =
     " ip access-group A out\ninterface e1\n ip access-group B in\ninterface e0\n ip access-group C in";
+
+/// Interfaces and ways, and the list that counts there.
+const APPLIED: [(&str, Way, Option<&str>); 5] = [
+    ("e0", Way::Inward, Some("C")),
+    ("e0", Way::Outward, Some("A")),
+    ("e1", Way::Inward, Some("B")),
+    ("e1", Way::Outward, None),
+    ("e2", Way::Inward, None),
+];
 
 /// A header without ports and flag.
 fn header(src: u32, proto: u8) -> Header {
@@ -401,18 +410,49 @@ fn lists_with_their_entries(rt: HostRuntime) -> Result<(), Fail> {
 #[test]
 fn the_last_group_counts(rt: HostRuntime) -> Result<(), Fail> {
     let config = read_after(rt.alloc(), GROUPS)?;
-    let groups = config.groups.as_slice();
-    assert_eq!(rt; groups.len(), 3);
-    for (at, interface, way, list) in [
-        (0, "e0", Way::Inward, "C"),
-        (1, "e0", Way::Outward, "A"),
-        (2, "e1", Way::Inward, "B"),
-    ] {
-        let group = &groups[at];
-        assert_eq!(rt; group.interface.bytes(), interface.as_bytes());
-        assert_eq!(rt; group.way, way);
-        assert_eq!(rt; group.list.bytes(), list.as_bytes());
+    assert_eq!(rt; config.groups.count(Way::Inward), 2);
+    assert_eq!(rt; config.groups.count(Way::Outward), 1);
+    for (interface, way, want) in APPLIED {
+        let interface = Name::of(rt.alloc(), interface.as_bytes())?;
+        let list = config.groups.list_at(&interface, way);
+        assert_eq!(rt;
+            list.map(|name| name.bytes()),
+            want.map(|name| name.as_bytes())
+        );
     }
+    Ok(())
+}
+
+/// Whether the list at this place has this name.
+fn is_named(config: &Config, place: usize, name: &str) -> bool {
+    match config.lists.at(place) {
+        Some((other, _)) => other.bytes() == name.as_bytes(),
+        None => false,
+    }
+}
+
+#[test]
+fn lists_by_place_and_name(rt: HostRuntime) -> Result<(), Fail> {
+    let alloc = rt.alloc();
+    let lines = "ip access-list extended L\naccess-list 7 permit any\nip access-list standard A";
+    let mut config = read_after(alloc, lines)?;
+    assert_eq!(rt; config.lists.count(), 3);
+    for (place, name) in [(0, "L"), (1, "7"), (2, "A")] {
+        assert_eq!(rt; is_named(&config, place, name), true, "{name} in the text");
+    }
+    config.lists.sort_by_name()?;
+    for (place, name) in [(0, "7"), (1, "A"), (2, "L")] {
+        assert_eq!(rt; is_named(&config, place, name), true, "{name} in order");
+    }
+    let name = Name::of(alloc, b"7")?;
+    match config.lists.take(&name) {
+        Some(list) => assert_eq!(rt; list.into_vec().len(), 1),
+        None => panic!(rt; "no list 7"),
+    }
+    assert_eq!(rt; config.lists.count(), 2);
+    assert_eq!(rt; config.lists.take(&name).is_none(), true);
+    let empty = empty_config(alloc);
+    assert_eq!(rt; empty.lists.count() + empty.groups.count(Way::Inward), 0);
     Ok(())
 }
 

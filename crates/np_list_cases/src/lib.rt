@@ -5,3 +5,5 @@
 mod acl;
 #[cfg(test)]
 mod acl_read;
+#[cfg(test)]
+mod cut;

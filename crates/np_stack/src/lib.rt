@@ -103,6 +103,3 @@ impl<const N: usize> HeaderStack<N> {
         wider
     }
 }
-
-#[cfg(test)]
-mod tests;

@@ -1,5 +1,6 @@
 -- The judging by protocols: what is known of the goals once some protocols have been tried.
 use Rattle.std.specs.Prelude.{ℕ, ◌<◌, ◌≤◌, Bool, true, false, List, slice_index_or, IsTrue}
+use Rattle.np_space.specs.Header.{zeros}
 use Rattle.np_space.specs.declared.headers.Header.{Header}
 use Rattle.np_top.specs.declared.network.Goal.{Goal}
 use Rattle.np_top.specs.declared.network.Network.{Network}
@@ -9,9 +10,9 @@ use Rattle.np_top.specs.Goals.{goal_at}
 use Rattle.np_top.specs.Path.{Reaches}
 use Rattle.np_top.specs.Tokens.{protocols_have}
 
--- a packet of a protocol that has no addresses, no ports and no flag
+-- a packet of a protocol whose other fields are all 0
 abbrev pub plain_packet : ℕ → Header
-plain_packet p = record { src = 0; dst = 0; proto = p; a = 0; b = 0; est = false }
+plain_packet p = record zeros { proto = p }
 
 -- some path lets packets of this protocol cross, which the goal forbids
 pub record IsBrokenBy (net : Network) (lets : ℕ → Bool) (goal : Goal) (protocol : ℕ) : Type 0 where

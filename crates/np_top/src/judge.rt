@@ -67,8 +67,8 @@ fn still_holds(
     Ok(!broken)
 }
 
-/// Tries one more protocol on each goal that still holds: by a packet without addresses, ports and flag, since the lists
-/// test the protocol alone.
+/// Tries one more protocol on each goal that still holds: by a packet whose other fields are all 0, since the lists test
+/// the protocol alone.
 fn judge_protocol(
     alloc: Global,
     net: &Network,
@@ -82,14 +82,8 @@ fn judge_protocol(
     requires judged { AreJudged net.now configs.now protocol 0 (length net.now.goals) verdicts.old }
     ensures { OnOk result (AreJudged net.now configs.now (protocol + 1) 0 (length net.now.goals) verdicts.new) }
 {
-    let header = Header {
-        src: 0,
-        dst: 0,
-        proto: protocol,
-        a: 0,
-        b: 0,
-        est: false,
-    };
+    let mut header = Header::zeros();
+    header.proto = protocol;
     let lets = slots(alloc, net, configs, &header)?;
     let goals = net.goals.as_slice();
     for n in 0..goals.len() {

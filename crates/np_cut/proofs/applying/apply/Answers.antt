@@ -1,21 +1,26 @@
-use Rattle.std.proofs.Common.{◌≡◌, ◌∙◌, ◌*◌, length, ap, subst, IfOk}
-use Rattle.np_cut.specs.Applying.{posture_of}
-use Rattle.np_cut.specs.DeviceLists.{posture_with}
-use Rattle.np_cut.specs.Posture.{Posture}
-use Rattle.np_cut.proofs.ApplyLaws.{posture_made, lets_by_result}
+use Rattle.std.proofs.Common.{◌≡◌, ◌∙◌, ◌*◌, length, ap, map, subst, IfOk}
+use Rattle.std.specs.List.{range_with_len}
+use Rattle.np_net.specs.Network.{IsNetwork}
+use Rattle.np_cut.specs.Applying.{applied_by_keys, applied_of, slot_key}
+use Rattle.np_cut.specs.AppliedLists.{AppliedLists}
+use Rattle.np_cut.proofs.ApplyLaws.{devices_by_result, lets_by_result, once_by_result}
 use Rattle.np_cut.proofs.applying.apply.Goals as goal
 
-made_of_maps : (c : goal.After-drop-devices-2) → IfOk c.applied_by_keys.result (λ applied. applied ≡ posture_of c.args.net.now c.args.configs.items)
-made_of_maps c =
-    let net = c.args.net.now in
-    let configs = c.args.configs.items in
-    let made : posture_with c.as_slice-3.result.now c.as_slice-4.result.now ≡ posture_of net configs =
-    posture_made net configs c.as_slice.result.now c.as_slice-3.result.now c.as_slice-2.result.now c.as_slice-4.result.now c.len.result
-    (c.as_slice.ensures ∙ ap (λ n. n.interfaces) c.net.view_is) (c.len.ensures ∙ c.net.invariant.free ∙ ap (λ n. 2 * length n.interfaces) c.net.view_is) (c.as_slice-3.ensures.value ∙ c.in_ok-devices.ensures) (c.as_slice-2.ensures.value ∙ c.in_ok-devices.ensures) (c.as_slice-4.ensures.value ∙ c.in_ok-keys.ensures) in
-    subst (λ (p : Posture). IfOk c.applied_by_keys.result (λ applied. applied ≡ p)) made c.applied_by_keys.ensures
-
 pub returns-clause-made : goal.returns-clause-made
-returns-clause-made c = made_of_maps c
+returns-clause-made c =
+    let interfaces = c.as_slice.ensures ∙ ap (λ n. n.interfaces) c.net.view_is in
+    let configs = c.as_slice-2.ensures.value in
+    let slots = c.len.ensures ∙ c.net.invariant.free ∙ ap (λ n. 2 * length n.interfaces) c.net.view_is in
+    let keys = c.as_slice-3.ensures.value ∙ c.in_ok-keys.ensures ∙ (λ i. map (slot_key (interfaces i) (configs i)) (range_with_len 0 (slots i))) in
+    let made : applied_by_keys c.as_mut_slice.result.now c.as_slice-3.result.now ≡ applied_of c.args.net.now.interfaces c.args.configs.items =
+    λ i. applied_by_keys (c.as_mut_slice.ensures.value i) (keys i) in
+    subst (λ (p : AppliedLists). IfOk c.applied_with.result (λ applied. applied ≡ p)) made c.applied_with.ensures
 
-pub returns-clause-posture : goal.returns-clause-posture
-returns-clause-posture c = lets_by_result c.args.net.now c.args.configs.items c.applied_by_keys.result (made_of_maps c)
+pub returns-clause-lets : goal.returns-clause-lets
+returns-clause-lets c = lets_by_result c.args.net.now.interfaces c.args.configs.items c.applied_with.result (returns-clause-made c)
+
+pub returns-clause-devices : goal.returns-clause-devices
+returns-clause-devices c = devices_by_result c.args.net.now c.args.configs.items (subst (λ n. IsNetwork n) c.net.view_is c.net.invariant) c.applied_with.result (returns-clause-made c)
+
+pub returns-clause-once : goal.returns-clause-once
+returns-clause-once c = once_by_result c.args.net.now.interfaces c.args.configs.items c.applied_with.result (returns-clause-made c)

@@ -1,10 +1,11 @@
-use Rattle.std.proofs.Common.{◌∙◌, arith}
-use Rattle.np_space.specs.Flag.{flag_number}
-use Rattle.np_space.proofs.HeaderLemmas.{valid_widths}
-use Rattle.np_cut.proofs.FieldLaws.{tests_by, last_alone, flag_is_one}
+use Rattle.std.proofs.Common.{◌∙◌, ap}
+use Rattle.std.specs.Prelude.{◌&&◌}
+use Rattle.np_space.specs.Block.{fields_have}
+use Rattle.np_space.specs.Span.{span_has}
+use Rattle.np_cut.proofs.FieldLaws.{tests_by, est_alone}
 use Rattle.np_cut.proofs.field_blocks.of_established.Goals as goal
 
 pub returns : goal.returns
 returns c = tests_by c.block_of.result _ _ c.block_of.ensures (λ h valid.
-    let w = valid_widths h valid in
-    last_alone (c.any_address.ensures h.src w.src) (c.any_address-2.ensures h.dst w.dst) (c.up_to.ensures.has h.proto (omega (arith, w.proto))) (c.up_to-ports.ensures.has h.a (omega (arith, w.a))) (c.up_to-ports.ensures.has h.b (omega (arith, w.b))) ∙ c.only.ensures.has (flag_number h.est) ∙ flag_is_one h.est)
+    let all = c.everything-all.ensures.is in
+    (λ i. fields_have (all i).src (all i).dst (all i).proto (all i).a (all i).b c.set_flag-set.result (all i).dscp h) ∙ est_alone h valid c.set_flag-set.result ∙ c.set_flag-set.ensures.has h.est)

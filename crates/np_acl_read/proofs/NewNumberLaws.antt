@@ -1,0 +1,375 @@
+-- No two entries of a list in a text have the same number.
+use Rattle.std.proofs.Common.{◌≡◌, ℕ, ◌+◌, ◌<◌, ◌≤◌, Bool, true, false, nat_eq, nat_le, nat_lt, max, List, [], ◌∷◌, ◌++◌, map, unwrap_or, Option, Some, None, refl, sym, ap, subst, ◌∙◌, arith}
+use Rattle.std.specs.Prelude.{◌&&◌, ◌||◌, not, ◌==◌, Ok, Err, fold, is_some, if◌then◌else◌, codes}
+use Rattle.std.specs.Fmt.{decimal}
+use Rattle.std.specs.List.{IsDistinct, filter_map, list_any}
+use Rattle.std.specs.Map.{keys_of, lookup}
+use Rattle.std.specs.Option.{option_map_or, option_or}
+use Rattle.std.specs.Str.{bytes_eq}
+use Rattle.std.proofs.lemmas.Bool.Decides.{nat_tests}
+use Rattle.std.proofs.lemmas.Cmp.{nat_eq_equiv}
+use Rattle.std.proofs.lemmas.Map.Keys.{IsDistinct-push}
+use Rattle.std.proofs.lemmas.Map.Made.{is_some-lookup}
+use Rattle.std.proofs.lemmas.Slice.Eq.{bytes_eq-Decides}
+use Rattle.np_text.specs.Lines.{lines_of}
+use Rattle.np_text.specs.Numbers.{is_numeral, number_of}
+use Rattle.np_text.specs.Words.{words_of}
+use Rattle.np_lines.specs.Judging.{Judged, ◌>>=◌, ended, within}
+use Rattle.np_lines.specs.Reading.{and_one, at_line, statements_from, text_says}
+use Rattle.np_lines.specs.Skipping.{begins_with, words_say}
+use Rattle.np_lines.specs.declared.fault.LineFault.{LineFault}
+use Rattle.np_entry_read.specs.Entries.{entry_of}
+use Rattle.np_entry_read.specs.declared.fault.ConfigWhy.{ConfigWhy}
+use Rattle.np_entry_read.specs.declared.fault.ConfigWhy.TheVariants as why
+use Rattle.np_acl.specs.declared.entries.Entry.{Entry}
+use Rattle.np_acl.specs.declared.kinds.ListKind.{ListKind}
+use Rattle.np_acl.specs.declared.kinds.ListKind.TheVariants.{Extended, Standard}
+use Rattle.np_acl.specs.declared.kinds.Way.{Way}
+use Rattle.np_acl_read.specs.declared.declared.Declared.{Declared}
+use Rattle.np_acl_read.specs.declared.declared.Section.{Section}
+use Rattle.np_acl_read.specs.declared.declared.Section.TheVariants as sections
+use Rattle.np_acl_read.specs.declared.statement.NumberedEntry.{NumberedEntry}
+use Rattle.np_acl_read.specs.declared.statement.Statement.{Statement}
+use Rattle.np_acl_read.specs.declared.statement.Statement.TheVariants as statement
+use Rattle.np_acl_read.specs.Adding.{entry_limit}
+use Rattle.np_acl_read.specs.Counting.{last_with}
+use Rattle.np_acl_read.specs.Declaring.{declared_by, declared_in, entries_of, entry_in, entry_of_list, lists_of, names_of}
+use Rattle.np_acl_read.specs.Judging.{access_list, acted, begins_list_line, begins_other, entry_or_remark, group_at, group_line, interface_line, ip_line, is_negated, keyword_says, line_of_list, line_says, line_with, list_entry, list_line, list_number, list_statement, next_number, no_line, number_limit, numbered, numbers_in, open_list, other_line, said_by, said_or_other, section_entry, section_line, section_statement, sequence_number, unnumbered, unused}
+use Rattle.np_acl_read.specs.Words.{action_of, way_of}
+use Rattle.np_acl_read.proofs.CountingLaws.{entry_of_number}
+use Rattle.np_acl_read.proofs.DeclarationLaws.{found_at, no_entries, none_more, one_more}
+
+-- ---- what holds of a value, if there is one
+
+-- it holds of what judging gives
+abbrev Holds : {X : Type 0} → (X → Type 0) → Judged ConfigWhy X → Type 0
+Holds P (Ok x) = P x
+Holds P (Err e) = Unit {0}
+
+-- it goes on through judging
+after : {X Y : Type 0} (P : X → Type 0) (Q : Y → Type 0) (j : Judged ConfigWhy X) (f : X → Judged ConfigWhy Y) → Holds P j → ((x : X) → P x → Holds Q (f x)) → Holds Q (j >>= f)
+after P Q (Ok x) f p next = next x p
+after P Q (Err e) f p next = tt
+
+-- whatever the value is
+free : {X : Type 0} (j : Judged ConfigWhy X) → Holds (λ x. Unit {0}) j
+free (Ok x) = tt
+free (Err e) = tt
+
+-- ---- new numbers
+
+-- a number is none of these
+abbrev IsNewOf : List ℕ → ℕ → Type 0
+IsNewOf numbers n = list_any (nat_eq n) numbers ≡ false
+
+-- a number of a word is new
+unused_new : (numbers : List ℕ) (o : Option ℕ) → Holds (IsNewOf numbers) (unused numbers o)
+unused_new numbers None = tt
+unused_new numbers (Some n) = by (n == 0) (list_any (nat_eq n) numbers) refl where
+  by : (zero used : Bool) → list_any (nat_eq n) numbers ≡ used → Holds (IsNewOf numbers) (if zero then Err why.BadNumber else (if used then Err why.DuplicateSequence else Ok n))
+  by true used is = tt
+  by false true is = tt
+  by false false is = is
+
+low_of_fold : (acc : ℕ) (xs : List ℕ) → acc ≤ fold max acc xs
+low_of_fold acc [] = omega arith
+low_of_fold acc (x ∷ xs) = let h = low_of_fold (max acc x) xs in omega arith
+
+-- so is one above all
+above_all : (n acc : ℕ) (xs : List ℕ) → fold max acc xs < n → list_any (nat_eq n) xs ≡ false
+above_all n acc [] above = refl
+above_all n acc (x ∷ xs) above =
+    let low = low_of_fold (max acc x) xs in
+    let less : x < n = omega arith in
+    rw (apart n x less, above_all n (max acc x) xs above) refl
+  where
+    apart : (n x : ℕ) → x < n → nat_eq n x ≡ false
+    apart n x less = grind (arith, nat_tests)
+
+next_new : (numbers : List ℕ) → Holds (IsNewOf numbers) (next_number numbers)
+next_new numbers = by (nat_le (fold max 0 numbers + 10) number_limit) where
+  by : (b : Bool) → Holds (IsNewOf numbers) (if b then Ok (fold max 0 numbers + 10) else Err why.BadNumber)
+  by true = above_all (fold max 0 numbers + 10) 0 numbers (omega arith)
+  by false = tt
+
+-- an entry's number is new in its list
+abbrev IsNewEntry : Declared → NumberedEntry → Type 0
+IsNewEntry declared entry = IsNewOf (numbers_in declared.lists entry.list) entry.number
+
+-- so it is of a statement that has one
+abbrev IsNewIn : Declared → Statement → Type 0
+IsNewIn declared (statement.Interface name) = Unit {0}
+IsNewIn declared (statement.Section list kind) = Unit {0}
+IsNewIn declared (statement.Remark list) = Unit {0}
+IsNewIn declared (statement.ListEntry entry) = IsNewEntry declared entry
+IsNewIn declared (statement.SectionEntry entry) = IsNewEntry declared entry
+IsNewIn declared (statement.Group interface way list) = Unit {0}
+IsNewIn declared statement.Other = Unit {0}
+
+-- and where there is an entry
+abbrev IfNewEntry : Declared → Option NumberedEntry → Type 0
+IfNewEntry declared None = Unit {0}
+IfNewEntry declared (Some entry) = IsNewEntry declared entry
+
+-- and where there is a statement
+abbrev IfNewIn : Declared → Option Statement → Type 0
+IfNewIn declared None = Unit {0}
+IfNewIn declared (Some s) = IsNewIn declared s
+
+-- ---- what lines say has new numbers
+
+within_new : (declared : Declared) (many : ConfigWhy) (limit count : ℕ) (entry : NumberedEntry) → IsNewEntry declared entry → Holds (IsNewEntry declared) (within many limit count entry)
+within_new declared many limit count entry new = by (nat_lt count limit) where
+  by : (b : Bool) → Holds (IsNewEntry declared) (if b then Ok entry else Err many)
+  by true = new
+  by false = tt
+
+numbered_new : (declared : Declared) (list : List ℕ) (kind : ListKind) (word : List ℕ) (permit : Bool) (words : List (List ℕ)) → Holds (IsNewEntry declared) (numbered declared list kind word permit words)
+numbered_new declared list kind word permit words =
+    after (IsNewOf (numbers_in declared.lists list)) (IsNewEntry declared) (sequence_number (numbers_in declared.lists list) word) _ (unused_new (numbers_in declared.lists list) (number_of word number_limit))
+    (λ number new. after (λ e. Unit {0}) (IsNewEntry declared) (entry_of kind permit words) _ (free (entry_of kind permit words))
+    (λ entry t. within_new declared _ entry_limit declared.entries (record { list = list; number = number; entry = entry }) new))
+
+unnumbered_new : (declared : Declared) (list : List ℕ) (kind : ListKind) (permit : Bool) (words : List (List ℕ)) → Holds (IsNewEntry declared) (unnumbered declared list kind permit words)
+unnumbered_new declared list kind permit words =
+    after (λ e. Unit {0}) (IsNewEntry declared) (entry_of kind permit words) _ (free (entry_of kind permit words))
+    (λ entry t. after (IsNewOf (numbers_in declared.lists list)) (IsNewEntry declared) (next_number (numbers_in declared.lists list)) _ (next_new (numbers_in declared.lists list))
+    (λ number new. within_new declared _ entry_limit declared.entries (record { list = list; number = number; entry = entry }) new))
+
+list_entry_new : (declared : Declared) (list : List ℕ) (kind : ListKind) (number : Option (List ℕ)) (permit : Bool) (words : List (List ℕ)) → Holds (IsNewEntry declared) (list_entry declared list kind number permit words)
+list_entry_new declared list kind None permit words = unnumbered_new declared list kind permit words
+list_entry_new declared list kind (Some word) permit words = numbered_new declared list kind word permit words
+
+acted_new : (declared : Declared) (list : List ℕ) (kind : ListKind) (number : Option (List ℕ)) (word : List ℕ) (action : Option Bool) (words : List (List ℕ)) → Holds (IfNewEntry declared) (acted declared list kind number word action words)
+acted_new declared list kind number word None words = tt
+acted_new declared list kind number word (Some permit) words =
+    after (IsNewEntry declared) (IfNewEntry declared) (list_entry declared list kind number permit words) _ (list_entry_new declared list kind number permit words) (λ entry new. new)
+
+entry_or_remark_new : (declared : Declared) (list : List ℕ) (kind : ListKind) (number : Option (List ℕ)) (words : List (List ℕ)) → Holds (IfNewEntry declared) (entry_or_remark declared list kind number words)
+unfolding entry_or_remark
+entry_or_remark_new declared list kind number [] = tt
+entry_or_remark_new declared list kind number (word ∷ words) = by (bytes_eq word (codes "remark")) where
+  by : (b : Bool) → Holds (IfNewEntry declared) (if b then Ok None else acted declared list kind number word (action_of word) words)
+  by true = tt
+  by false = acted_new declared list kind number word (action_of word) words
+
+line_of_list_new : (declared : Declared) (list : Option (ℕ × ListKind)) (words : List (List ℕ)) → Holds (IsNewIn declared) (line_of_list declared list words)
+line_of_list_new declared None words = tt
+line_of_list_new declared (Some list) words =
+    after (IfNewEntry declared) (IsNewIn declared) (entry_or_remark declared (decimal list.0) list.1 None words) _ (entry_or_remark_new declared (decimal list.0) list.1 None words) by
+  where
+    by : (entry : Option NumberedEntry) → IfNewEntry declared entry → IsNewIn declared (list_statement (decimal list.0) entry)
+    by None new = tt
+    by (Some entry) new = new
+
+list_line_new : (declared : Declared) (words : List (List ℕ)) → Holds (IsNewIn declared) (list_line declared words)
+unfolding list_line
+list_line_new declared [] = tt
+list_line_new declared (word ∷ words) = line_of_list_new declared (list_number word) words
+
+interface_line_new : (declared : Declared) (words : List (List ℕ)) → Holds (IsNewIn declared) (interface_line words)
+interface_line_new declared [] = tt
+interface_line_new declared (name ∷ words) = tt
+
+open_list_new : (declared : Declared) (kind : ListKind) (words : List (List ℕ)) → Holds (IsNewIn declared) (open_list kind words)
+unfolding open_list
+open_list_new declared kind [] = tt
+open_list_new declared kind (name ∷ []) = tt
+open_list_new declared kind (name ∷ more ∷ words) = tt
+
+access_list_new : (declared : Declared) (words : List (List ℕ)) → Holds (IsNewIn declared) (access_list words)
+unfolding access_list
+access_list_new declared [] = tt
+access_list_new declared (word ∷ words) = by (bytes_eq word (codes "extended")) (bytes_eq word (codes "standard")) where
+  by : (extended standard : Bool) → Holds (IsNewIn declared) (if extended then open_list Extended words else (if standard then open_list Standard words else Ok statement.Other))
+  by true standard = open_list_new declared Extended words
+  by false true = open_list_new declared Standard words
+  by false false = tt
+
+ended_new : (declared : Declared) (more : ConfigWhy) (interface : List ℕ) (way : Way) (list : List ℕ) (words : List (List ℕ)) → Holds (IsNewIn declared) (ended more words (statement.Group interface way list))
+ended_new declared more interface way list [] = tt
+ended_new declared more interface way list (word ∷ words) = tt
+
+group_at_new : (declared : Declared) (interface : List ℕ) (words : List (List ℕ)) → Holds (IsNewIn declared) (group_at interface words)
+unfolding group_at
+group_at_new declared interface [] = tt
+group_at_new declared interface (list ∷ []) = tt
+group_at_new declared interface (list ∷ word ∷ words) =
+    after (λ w. Unit {0}) (IsNewIn declared) (way_of word) _ (free (way_of word)) (λ way t. ended_new declared _ interface way list words)
+
+group_line_new : (declared : Declared) (section : Section) (words : List (List ℕ)) → Holds (IsNewIn declared) (group_line section words)
+group_line_new declared sections.Closed words = tt
+group_line_new declared (sections.Interface name) words = group_at_new declared name words
+group_line_new declared (sections.List name kind) words = tt
+
+ip_line_new : (declared : Declared) (words : List (List ℕ)) → Holds (IsNewIn declared) (ip_line declared words)
+unfolding ip_line
+ip_line_new declared [] = tt
+ip_line_new declared (word ∷ words) = by (bytes_eq word (codes "access-list")) (bytes_eq word (codes "access-group")) where
+  by : (list group : Bool) → Holds (IsNewIn declared) (if list then access_list words else (if group then group_line declared.section words else Ok statement.Other))
+  by true group = access_list_new declared words
+  by false true = group_line_new declared declared.section words
+  by false false = tt
+
+no_line_new : (declared : Declared) (words : List (List ℕ)) → Holds (IsNewIn declared) (no_line declared words)
+no_line_new declared words = by (is_negated declared.section words) where
+  by : (b : Bool) → Holds (IsNewIn declared) (if b then Err why.Negated else Ok statement.Other)
+  by true = tt
+  by false = tt
+
+-- a keyword's line, where there is one
+abbrev IfHolds : Declared → Option (Judged ConfigWhy Statement) → Type 0
+IfHolds declared None = Unit {0}
+IfHolds declared (Some judged) = Holds (IsNewIn declared) judged
+
+keyword_new : (declared : Declared) (word : List ℕ) (words : List (List ℕ)) → IfHolds declared (keyword_says declared word words)
+keyword_new declared word words = by (bytes_eq word (codes "interface")) (bytes_eq word (codes "access-list")) (bytes_eq word (codes "ip")) (bytes_eq word (codes "no")) where
+  by : (interface list ip negated : Bool) → IfHolds declared (if interface then Some (interface_line words) else (if list then Some (list_line declared words) else (if ip then Some (ip_line declared words) else (if negated then Some (no_line declared words) else None))))
+  by true list ip negated = interface_line_new declared words
+  by false true ip negated = list_line_new declared words
+  by false false true negated = ip_line_new declared words
+  by false false false true = no_line_new declared words
+  by false false false false = tt
+
+section_entry_new : (declared : Declared) (list : List ℕ) (kind : ListKind) (words : List (List ℕ)) → Holds (IfNewEntry declared) (section_entry declared list kind words)
+unfolding section_entry
+section_entry_new declared list kind [] = entry_or_remark_new declared list kind None []
+section_entry_new declared list kind (word ∷ words) = by (is_numeral word) where
+  by : (b : Bool) → Holds (IfNewEntry declared) (if b then entry_or_remark declared list kind (Some word) words else entry_or_remark declared list kind None (word ∷ words))
+  by true = entry_or_remark_new declared list kind (Some word) words
+  by false = entry_or_remark_new declared list kind None (word ∷ words)
+
+section_line_new : (declared : Declared) (list : List ℕ) (kind : ListKind) (words : List (List ℕ)) → Holds (IfNewIn declared) (section_line declared list kind words)
+section_line_new declared list kind words =
+    after (IfNewEntry declared) (IfNewIn declared) (section_entry declared list kind words) _ (section_entry_new declared list kind words) by
+  where
+    by : (entry : Option NumberedEntry) → IfNewEntry declared entry → IfNewIn declared (section_statement entry)
+    by None new = tt
+    by (Some entry) new = new
+
+other_line_new : (declared : Declared) (section : Section) (word : List ℕ) (words : List (List ℕ)) → Holds (IfNewIn declared) (other_line declared section word words)
+other_line_new declared sections.Closed word words = tt
+other_line_new declared (sections.Interface name) word words = tt
+other_line_new declared (sections.List name kind) word words = by (begins_list_line word) where
+  by : (b : Bool) → Holds (IfNewIn declared) (if b then section_line declared name kind words else Ok (Some statement.Other))
+  by true = section_line_new declared name kind words
+  by false = tt
+
+said_or_other_new : (declared : Declared) (o : Option (Judged ConfigWhy Statement)) (word : List ℕ) (words : List (List ℕ)) → IfHolds declared o → Holds (IfNewIn declared) (said_or_other declared o word words)
+said_or_other_new declared None word words holds = other_line_new declared declared.section word words
+said_or_other_new declared (Some judged) word words holds = after (IsNewIn declared) (IfNewIn declared) judged _ holds (λ s new. new)
+
+line_with_new : (declared : Declared) (word : List ℕ) (words : List (List ℕ)) → Holds (IfNewIn declared) (line_with declared word words)
+line_with_new declared word words = by (begins_other declared.section word) where
+  by : (b : Bool) → Holds (IfNewIn declared) (if b then Ok (Some statement.Other) else said_by declared (word ∷ words))
+  by true = tt
+  by false = said_or_other_new declared (keyword_says declared word words) word (word ∷ words) (keyword_new declared word words)
+
+words_new : (declared : Declared) (words : List (List ℕ)) → Holds (IfNewIn declared) (words_say 33 (line_with declared) words)
+words_new declared [] = tt
+words_new declared (word ∷ words) = by (begins_with 33 word) where
+  by : (b : Bool) → Holds (IfNewIn declared) (if b then Ok None else line_with declared word words)
+  by true = tt
+  by false = line_with_new declared word words
+
+-- the number of an entry that a line says is new in its list
+line_new : (declared : Declared) (line : List ℕ) → Holds (IfNewIn declared) (line_says declared line)
+unfolding line_says
+line_new declared line = words_new declared (words_of line)
+
+-- ---- the numbers of a list
+
+-- the numbers of a list are those that are declared
+some_or : {V : Type 0} (o p : Option V) → is_some (option_or o p) ≡ (is_some p || is_some o)
+some_or None None = refl
+some_or None (Some y) = refl
+some_or (Some x) None = refl
+some_or (Some x) (Some y) = refl
+
+some_last : {K V : Type 0} (test : K → Bool) (pairs : List (K × V)) → is_some (last_with test pairs) ≡ list_any test (keys_of pairs)
+some_last test [] = refl
+some_last test (pair ∷ pairs) =
+    some_or (last_with test pairs) (if test pair.0 then Some pair.1 else None) ∙ (λ i. found (test pair.0) i || some_last test pairs i)
+  where
+    found : (b : Bool) → is_some (if b then Some pair.1 else None) ≡ b
+    found true = refl
+    found false = refl
+
+numbers_of_entries : (o : Option (List (ℕ × Entry))) → option_map_or (λ entries. map (λ entry. entry.0) entries) o [] ≡ keys_of (unwrap_or o [])
+numbers_of_entries None = refl
+numbers_of_entries (Some entries) = refl
+
+-- a number that is none of a list's is none of those declared
+undeclared : (before : List Statement) (name : List ℕ) (n : ℕ) → IsNewOf (numbers_in (lists_of before) name) n → list_any (nat_eq n) (keys_of (declared_in before name)) ≡ false
+undeclared before name n new =
+    let all : numbers_in (lists_of before) name ≡ keys_of (entries_of before name) = numbers_of_entries (lookup (bytes_eq name) (lists_of before)) ∙ ap (λ entries. keys_of entries) (found_at (entries_of before) (names_of before) name (no_entries name before)) in
+    sym (some_last (nat_eq n) (declared_in before name))
+    ∙ ap (λ o. is_some o) (sym (entry_of_number before name n))
+    ∙ is_some-lookup (nat_eq n) (entries_of before name)
+    ∙ ap (λ numbers. list_any (nat_eq n) numbers) (sym all)
+    ∙ new
+
+-- the numbers of a list, as statements declare them, are distinct
+abbrev pub AreApart : List Statement → Type 0
+AreApart statements = (name : List ℕ) → IsDistinct nat_eq (keys_of (declared_in statements name))
+
+keys_more : (pairs : List (ℕ × Entry)) (one : ℕ × Entry) → keys_of (pairs ++ one ∷ []) ≡ keys_of pairs ++ one.0 ∷ []
+keys_more [] one = refl
+keys_more (pair ∷ pairs) one = ap (λ keys. pair.0 ∷ keys) (keys_more pairs one)
+
+-- a statement without an entry leaves the numbers
+apart_kept : (before : List Statement) (s : Statement) → entry_in s ≡ None → AreApart before → AreApart (before ++ s ∷ [])
+apart_kept before s none apart name = rw (none_more entry_in before s none) (apart name)
+
+-- one with an entry of a new number keeps them distinct
+apart_more : (before : List Statement) (s : Statement) (entry : NumberedEntry) → entry_in s ≡ Some entry → IsNewEntry (declared_by before) entry → AreApart before → AreApart (before ++ s ∷ [])
+unfolding declared_by
+apart_more before s entry is new apart name = rw (one_more entry_in before s entry is) (by (bytes_eq name entry.list) refl) where
+  by : (b : Bool) → bytes_eq name entry.list ≡ b → IsDistinct nat_eq (keys_of (filter_map (entry_of_list name) (filter_map entry_in before ++ entry ∷ [])))
+  by false away = rw (none_more (entry_of_list name) (filter_map entry_in before) entry (rw away refl)) (apart name)
+  by true there =
+      let same : name ≡ entry.list = (bytes_eq-Decides name entry.list).0 there in
+      let fresh : list_any (nat_eq entry.number) (keys_of (declared_in before name)) ≡ false = undeclared before name entry.number (rw same new) in
+      rw (
+        one_more (entry_of_list name) (filter_map entry_in before) entry (entry.number, entry.entry) (rw there refl),
+        keys_more (declared_in before name) (entry.number, entry.entry),
+      ) (IsDistinct-push nat_eq_equiv (keys_of (declared_in before name)) entry.number (apart name) fresh)
+
+apart_step : (before : List Statement) (s : Statement) → IsNewIn (declared_by before) s → AreApart before → AreApart (before ++ s ∷ [])
+apart_step before (statement.Interface name) new apart = apart_kept before (statement.Interface name) refl apart
+apart_step before (statement.Section list kind) new apart = apart_kept before (statement.Section list kind) refl apart
+apart_step before (statement.Remark list) new apart = apart_kept before (statement.Remark list) refl apart
+apart_step before (statement.ListEntry entry) new apart = apart_more before (statement.ListEntry entry) entry refl new apart
+apart_step before (statement.SectionEntry entry) new apart = apart_more before (statement.SectionEntry entry) entry refl new apart
+apart_step before (statement.Group interface way list) new apart = apart_kept before (statement.Group interface way list) refl apart
+apart_step before statement.Other new apart = apart_kept before statement.Other refl apart
+
+-- ---- texts
+
+-- it holds of the statements that are read
+abbrev Read : (List Statement → Type 0) → Judged (LineFault ConfigWhy) (List Statement) → Type 0
+Read P (Ok statements) = P statements
+Read P (Err fault) = Unit {0}
+
+line_apart : (before : List Statement) (number : ℕ) (j : Judged ConfigWhy (Option Statement)) (lines : List (List ℕ)) → Holds (IfNewIn (declared_by before)) j → AreApart before
+    → ((more : List Statement) → AreApart more → Read AreApart (statements_from (λ earlier. line_says (declared_by earlier)) more (number + 1) lines))
+    → Read AreApart (at_line number j >>= λ said. statements_from (λ earlier. line_says (declared_by earlier)) (and_one before said) (number + 1) lines)
+line_apart before number (Ok None) lines new apart next = next before apart
+line_apart before number (Ok (Some s)) lines new apart next = next (before ++ s ∷ []) (apart_step before s new apart)
+line_apart before number (Err fault) lines new apart next = tt
+
+apart_from : (before : List Statement) (number : ℕ) (lines : List (List ℕ)) → AreApart before → Read AreApart (statements_from (λ earlier. line_says (declared_by earlier)) before number lines)
+apart_from before number [] apart = apart
+apart_from before number (line ∷ lines) apart =
+    line_apart before number (line_says (declared_by before) line) lines (line_new (declared_by before) line) apart (λ more h. apart_from more (number + 1) lines h)
+
+none_apart : AreApart []
+unfolding IsDistinct
+none_apart name = tt
+
+read_is : (P : List Statement → Type 0) (j : Judged (LineFault ConfigWhy) (List Statement)) (statements : List Statement) → j ≡ Ok statements → Read P j → P statements
+read_is P j statements is holds = let Q : Judged (LineFault ConfigWhy) (List Statement) → Type 0 = λ k. Read P k in subst Q is holds
+
+-- the statements of a text give a list no number twice
+pub numbers_apart : (text : List ℕ) (statements : List Statement) → text_says (λ before. line_says (declared_by before)) text ≡ Ok statements → (name : List ℕ) → IsDistinct nat_eq (keys_of (declared_in statements name))
+numbers_apart text statements says = read_is AreApart (text_says (λ before. line_says (declared_by before)) text) statements says (apart_from [] 1 (lines_of text) none_apart)

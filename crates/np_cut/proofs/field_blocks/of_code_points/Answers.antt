@@ -1,0 +1,11 @@
+use Rattle.std.proofs.Common.{◌∙◌, ap}
+use Rattle.std.specs.Prelude.{◌&&◌}
+use Rattle.np_space.specs.Block.{fields_have}
+use Rattle.np_space.specs.Span.{span_has}
+use Rattle.np_cut.proofs.FieldLaws.{tests_by, dscp_alone}
+use Rattle.np_cut.proofs.field_blocks.of_code_points.Goals as goal
+
+pub returns : goal.returns
+returns c = tests_by c.block_of.result _ _ c.block_of.ensures (λ h valid.
+    let all = c.everything-all.ensures.is in
+    (λ i. fields_have (all i).src (all i).dst (all i).proto (all i).a (all i).b (all i).est c.args.dscp h) ∙ dscp_alone h valid c.args.dscp)

@@ -1,0 +1,5 @@
+pub mod CanonicalWords
+pub mod CanonicalParts
+pub mod CanonicalLaws
+pub mod PortLaws
+pub mod SpanMeaning

@@ -1,0 +1,5 @@
+use Rattle.np_entry_read.proofs.CanonicalLaws.{entry_reads_back}
+use Rattle.np_entry_read.proofs.laws.canonical_words_read_back.Goals as goal
+
+pub returns : goal.returns
+returns c = entry_reads_back

@@ -4,4 +4,6 @@
 #[cfg(test)]
 mod net;
 #[cfg(test)]
+mod net_read;
+#[cfg(test)]
 mod pred;

@@ -21,7 +21,7 @@ use Rattle.np_net.specs.declared.associations.Table.{Table}
 use Rattle.np_net_read.specs.Canonical as canonical
 use Rattle.np_net_read.specs.CanonicalText.{spaced, line_text, lines_text}
 
--- a predicate has words, and so its text behind a space is each of its words behind one
+-- a predicate has words, and so its text after a space is each of its words after one
 pub spaced_pred : (p : Pred) → spaced (pred_words p) ≡ 32 ∷ pred_text p
 spaced_pred p = let some = (by_induction IsWritten written_inductive p).0 in rw some.2 (ap (λ text. 32 ∷ text) (sym (join_with_byte-flat_map 32 some.0 some.1)))
 
@@ -39,7 +39,7 @@ lines_text-joined (words ∷ lines) = rw (line_text-joined words, lines_text-joi
 pub lines_text-append : (before behind : List (List (List ℕ))) → lines_text (before ++ behind) ≡ lines_text before ++ lines_text behind
 lines_text-append before behind = flat_map-append line_text before behind
 
--- the whole text is that of the filtering part, and behind it that of the IPsec part
+-- the whole text is that of the filtering part, and after it that of the IPsec part
 pub net_text-parts : (net : Plan) → canonical.net_text net ≡ lines_text (canonical.filtering_lines net) ++ lines_text (canonical.ipsec_lines net)
 net_text-parts net = sym (lines_text-joined (canonical.net_lines net)) ∙ lines_text-append (canonical.filtering_lines net) (canonical.ipsec_lines net)
 
@@ -55,7 +55,7 @@ AllByRecursion-at P [] i x all lt e = absurd (omega arith)
 AllByRecursion-at P (y ∷ ys) zero x all lt e = subst P (sym e) all.0
 AllByRecursion-at P (y ∷ ys) (suc i) x all lt e = AllByRecursion-at P ys i x all.1 (omega arith) e
 
--- ---- one text behind another
+-- ---- one text after another
 
 pub appended-three : (o a b d k l m : List ℕ) → k ≡ o ++ a → l ≡ k ++ b → m ≡ l ++ d → m ≡ o ++ (a ++ (b ++ d))
 appended-three o a b d k l m first second third = rw (third, second, first) (simp append_assoc)

@@ -1,25 +1,27 @@
 -- Lines of words that each declare something, read one after another.
 use Rattle.std.proofs.Common.{◌≡◌, ℕ, ◌+◌, Bool, true, false, List, [], ◌∷◌, ◌++◌, map, Option, Some, Ok, sym, refl, ap, ◌∙◌, subst}
 use Rattle.std.specs.List.{AllByRecursion}
-use Rattle.np_text.specs.Joined.{is_word, joined_line}
+use Rattle.np_text.specs.Joined.{AreLinesOfWords, joined_line}
 use Rattle.np_text.specs.Lines.{lines_of}
 use Rattle.np_text.specs.Words.{words_of}
 use Rattle.np_text.proofs.JoinedLaws.{words_of-joined_line, lines_of-joined_text, words_of-joined_text}
+use Rattle.np_lines.specs.Judging.{Judged}
+use Rattle.np_lines.specs.Reading.{statements_from}
+use Rattle.np_net_read.specs.declared.fault.NetWhy.{NetWhy}
 use Rattle.np_net_read.specs.declared.declared.Declared.{Declared}
 use Rattle.np_net_read.specs.declared.statement.Statement.{Statement}
 use Rattle.np_net_read.specs.Canonical.{text_of_lines}
 use Rattle.np_net_read.specs.Declaring.{declared_by, network_of}
 use Rattle.np_net_read.specs.Fitting.{added}
 use Rattle.np_net_read.specs.Judging.{words_say, line_says}
-use Rattle.np_net_read.specs.Reading.{statements_from, net_of}
-use Rattle.np_net_read.specs.Why.{Judged}
-use Rattle.np_net_read.proofs.DeclarationLaws.{declared_by_more}
+use Rattle.np_net_read.specs.Reading.{net_of}
+use Rattle.np_net_read.proofs.DeclarationLaws.{declared_one_more}
 use Rattle.np_net_read.proofs.PlainWords.{ArePlain, plain_words, plain_line}
 
 abbrev pub Lines : Type 0
 Lines = List (List (List ℕ))
 
--- each line declares something behind those before it, and all of them together take what is declared to what is declared after them
+-- each line declares something after those before it, and all of them together take what is declared to what is declared after them
 abbrev pub ReadsInto : Declared → Lines → Declared → Type 0
 ReadsInto declared [] after = declared ≡ after
 ReadsInto declared (words ∷ lines) after = (s : Statement) × (words_say declared words ≡ Ok (Some s)) × ReadsInto (added declared s) lines after
@@ -38,19 +40,19 @@ plain_lines_append (x ∷ xs) ys h k = (h.0, plain_lines_append xs ys h.1 k)
 
 -- ---- one line, and lines
 
-line_reads : (declared : Declared) (words : List (List ℕ)) (said : Judged (Option Statement)) → ArePlain words → words_say declared words ≡ said → line_says declared (joined_line false words) ≡ said
+line_reads : (declared : Declared) (words : List (List ℕ)) (said : Judged NetWhy (Option Statement)) → ArePlain words → words_say declared words ≡ said → line_says declared (joined_line false words) ≡ said
 unfolding line_says
 line_reads declared words said plain h = rw (plain_line words plain, words_of-joined_line false words (plain_words words plain)) h
 
-statements_read : (before : List Statement) (n : ℕ) (lines : Lines) (after : Declared) → ArePlainLines lines → ReadsInto (declared_by before) lines after → (final : List Statement) × (statements_from before n (map (joined_line false) lines) ≡ Ok final) × (declared_by final ≡ after)
+statements_read : (before : List Statement) (n : ℕ) (lines : Lines) (after : Declared) → ArePlainLines lines → ReadsInto (declared_by before) lines after → (final : List Statement) × (statements_from (λ earlier. line_says (declared_by earlier)) before n (map (joined_line false) lines) ≡ Ok final) × (declared_by final ≡ after)
 statements_read before n [] after plain h = (before, refl, h)
 statements_read before n (words ∷ lines) after plain h =
-    let rest = statements_read (before ++ h.0 ∷ []) (n + 1) lines after plain.1 (subst (λ d. ReadsInto d lines after) (sym (declared_by_more before (Some h.0))) h.2) in
+    let rest = statements_read (before ++ h.0 ∷ []) (n + 1) lines after plain.1 (subst (λ d. ReadsInto d lines after) (sym (declared_one_more before h.0)) h.2) in
     (rest.0, rw (line_reads (declared_by before) words (Ok (Some h.0)) plain.0 h.1) rest.1, rest.2)
 
 -- ---- a text of such lines
 
-all_plain : (lines : Lines) → ArePlainLines lines → AllByRecursion (λ (line : Bool × List (List ℕ)). AllByRecursion (λ word. is_word word ≡ true) line.1) (map (λ words. (false, words)) lines)
+all_plain : (lines : Lines) → ArePlainLines lines → AreLinesOfWords (map (λ words. (false, words)) lines)
 all_plain [] h = tt
 all_plain (words ∷ lines) h = (plain_words words h.0, all_plain lines h.1)
 

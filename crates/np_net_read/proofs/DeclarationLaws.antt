@@ -2,11 +2,11 @@
 use Rattle.std.proofs.Common.{◌≡◌, ℕ, List, [], ◌∷◌, ◌++◌, Option, Some, None, refl, ◌∙◌}
 use Rattle.std.proofs.lemmas.List.Elements.{filter_map-append}
 use Rattle.std.specs.List.{filter_map}
+use Rattle.np_lines.specs.Declaring.{GrowsBy}
 use Rattle.np_net_read.specs.declared.statement.Statement.{Statement}
 use Rattle.np_net_read.specs.declared.statement.Statement.TheVariants as statement
 use Rattle.np_net_read.specs.Declaring.{declared_by, depth_in, area_in, device_in, interface_in, slot_in, goal_in, last_or}
-use Rattle.np_net_read.specs.Fitting.{added, added_if}
-use Rattle.np_net_read.specs.Reading.{and_one}
+use Rattle.np_net_read.specs.Fitting.{added}
 
 -- items that give nothing leave what the others give
 none_more : {X Y : Type 0} (h : X → Option Y) (xs : List X) (x : X) → h x ≡ None → filter_map h (xs ++ x ∷ []) ≡ filter_map h xs
@@ -20,7 +20,8 @@ last_more : (before : Option ℕ) (ns : List ℕ) (n : ℕ) → last_or before (
 last_more before [] n = refl
 last_more before (m ∷ ns) n = last_more (Some m) ns n
 
-declared_one_more : (before : List Statement) (s : Statement) → declared_by (before ++ s ∷ []) ≡ added (declared_by before) s
+-- one statement more declares what it adds to what the others declare
+pub declared_one_more : GrowsBy declared_by added
 unfolding declared_by
 declared_one_more before (statement.Depth depth) =
     rw (
@@ -77,8 +78,3 @@ declared_one_more before (statement.Goal goal) =
       one_more goal_in before (statement.Goal goal) goal refl,
       none_more depth_in before (statement.Goal goal) refl,
     ) refl
-
--- statements with one more, where there is one, declare what was declared and that one
-pub declared_by_more : (before : List Statement) (said : Option Statement) → declared_by (and_one before said) ≡ added_if (declared_by before) said
-declared_by_more before None = refl
-declared_by_more before (Some s) = declared_one_more before s

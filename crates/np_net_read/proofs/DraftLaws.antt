@@ -3,16 +3,17 @@ use Rattle.std.proofs.Common.{◌≡◌, ℕ, ◌≤◌, List, [], ◌∷◌, �
 use Rattle.std.specs.Str.{bytes_eq}
 use Rattle.std.proofs.lemmas.List.{map-append, length-map}
 use Rattle.np_pred.specs.Areas.{sources_named}
+use Rattle.np_net.specs.Sources.{source_list}
 use Rattle.np_net.specs.Plan.{area_names, device_names, interface_names}
 use Rattle.np_net.specs.declared.filtering.Area.{Area}
 use Rattle.np_net.specs.declared.filtering.Device.{Device}
 use Rattle.np_net.specs.declared.filtering.Interface.{Interface}
 use Rattle.np_net_read.specs.declared.draft.Draft.{Draft}
 use Rattle.np_net_read.specs.declared.statement.Statement.TheVariants as statement
-use Rattle.np_net_read.specs.Declaring.{declared_by, source_list}
+use Rattle.np_net_read.specs.Declaring.{declared_by}
 use Rattle.np_net_read.specs.Drafting.{IsDraft}
 use Rattle.np_net_read.specs.Fitting.{IsSound, added, IsNewArea, IsNewDevice, IsNewInterface}
-use Rattle.np_net_read.proofs.ListLaws.{lookup_none}
+use Rattle.np_net.proofs.ListLaws.{lookup_none}
 use Rattle.np_net_read.proofs.SoundLaws.{sound_more}
 
 -- what is declared before any line makes a network

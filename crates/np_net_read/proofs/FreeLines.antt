@@ -14,7 +14,7 @@ use Rattle.np_net_read.specs.Canonical.{slot_line, free_lines, place_words}
 use Rattle.np_net_read.specs.Declaring.{free_flags}
 use Rattle.np_net_read.specs.Judging.{slot_of, words_say, free_says}
 use Rattle.np_net_read.proofs.ChainLaws.{ReadsInto, then_reads}
-use Rattle.np_net_read.proofs.PlaceLaws.{place_found}
+use Rattle.np_net.proofs.NamingLaws.{place_found}
 use Rattle.np_net_read.proofs.StatementLines.{stage, device_named}
 
 -- ---- the slots that flags free
@@ -52,7 +52,7 @@ new_behind : (slot : ℕ) (slots : List ℕ) → AreBelow slot slots → list_an
 new_behind slot [] h = refl
 new_behind slot (s ∷ slots) h = let first : s < slot = h.0 in or_from _ _ (ne_eqb slot s (λ e. absurd (omega arith))) (new_behind slot slots h.1)
 
--- nor among those that flags behind it free
+-- nor among those that flags after it free
 not_later : (slot first : ℕ) (flags : List Bool) → slot < first → list_any (nat_eq slot) (free_slots first flags) ≡ false
 not_later slot first [] lt = refl
 not_later slot first (true ∷ flags) lt = or_from _ _ (ne_eqb slot first (λ e. absurd (omega arith))) (not_later slot (first + 1) flags (omega arith))

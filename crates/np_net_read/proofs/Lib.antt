@@ -7,7 +7,6 @@ pub mod LineReading
 pub mod ListLaws
 pub mod NetworkLaws
 pub mod ParallelLaws
-pub mod PlaceLaws
 pub mod PlainForms
 pub mod PlainLines
 pub mod PlainWords

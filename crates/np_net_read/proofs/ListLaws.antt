@@ -15,7 +15,7 @@ pub all_weaker : {X : Type 0} (P Q : X → Type 0) (xs : List X) → ((x : X) �
 all_weaker P Q [] weaker all = tt
 all_weaker P Q (x ∷ xs) weaker all = (weaker x all.0, all_weaker P Q xs weaker all.1)
 
--- an item that is new after all others goes behind them
+-- an item that is new after all others goes after them
 pub new_more : {X : Type 0} (eq : X → X → Bool) (seen xs : List X) (x : X) → AreNewAfter eq seen xs → list_any (eq x) (seen ++ xs) ≡ false → AreNewAfter eq seen (xs ++ x ∷ [])
 new_more eq seen [] x new none = (rw (seen_alone seen) none, tt) where
   seen_alone : {X : Type 0} (seen : List X) → seen ≡ seen ++ []
@@ -27,13 +27,3 @@ new_more eq seen (y ∷ xs) x new none = (new.0, new_more eq (seen ++ y ∷ []) 
 pub length_more : {X : Type 0} (xs : List X) (x : X) → length (xs ++ x ∷ []) ≡ length xs + 1
 length_more [] x = refl
 length_more (y ∷ xs) x = let h = length_more xs x in omega arith
-
-none_by_cases : {V : Type 0} (here there : Bool) (own : V) (rest : Option V) → (there ≡ false → rest ≡ None) → (here || there) ≡ false → cond here (Some own) rest ≡ None
-none_by_cases true there own rest later none = cc
-none_by_cases false there own rest later none = later none
-
--- a key that none of the entries has finds nothing
-pub lookup_none : {X K V : Type 0} (test : K → Bool) (key : X → K) (value : X → V) (xs : List X) → list_any test (map key xs) ≡ false → lookup test (map (λ x. (key x, value x)) xs) ≡ None
-lookup_none test key value [] none = refl
-lookup_none test key value (x ∷ xs) none =
-    none_by_cases (test (key x)) (list_any test (map key xs)) (value x) (lookup test (map (λ x. (key x, value x)) xs)) (lookup_none test key value xs) none

@@ -28,7 +28,7 @@ left_step out next whole lines left before new =
 pub none_left : (out whole : List ℕ) (left : Lines) → out ++ lines_text left ≡ whole → left ≡ [] → out ≡ whole
 none_left out whole left before none = sym (append-nil out) ∙ ap (λ lines. out ++ lines_text lines) (sym none) ∙ before
 
--- the item at this index, and those behind it
+-- the item at this index, and those after it
 pub drop-item : {X : Type 0} (xs : List X) (i : ℕ) (x : X) → i < length xs → x ≡ get_or xs i x → drop i xs ≡ x ∷ drop (i + 1) xs
 drop-item xs i x lt e = rw (add-one i) (drop-cons xs i x lt ∙ ap (λ y. y ∷ drop (suc i) xs) (sym e))
 

@@ -18,8 +18,11 @@ use Rattle.np_pred.specs.declared.predicate.Pred.{Pred}
 use Rattle.np_pred.specs.Canonical.{protocol_words, words_step, pred_words}
 use Rattle.np_pred.specs.Forms.{octets_step, has_octets}
 use Rattle.np_pred.specs.Patterns.{addresses_text, prefix_text}
+use Rattle.np_pred.specs.Bounds.{bounds_text}
+use Rattle.np_pred.specs.Dscp.{dscp_text}
 use Rattle.np_pred.specs.Ports.{ports_text}
-use Rattle.np_pred.proofs.Induction.{IsInductive, by_induction, fold-Any, fold-Nothing, fold-Proto, fold-Src, fold-Dst, fold-SrcPort, fold-DstPort, fold-IcmpType, fold-IcmpCode, fold-Established, fold-Not, fold-And, fold-Or}
+use Rattle.np_pred.specs.declared.dscp.DscpSpan.{DscpSpan}
+use Rattle.np_pred.proofs.Induction.{IsInductive, by_induction, fold-Any, fold-Nothing, fold-Proto, fold-Src, fold-Dst, fold-SrcPort, fold-DstPort, fold-IcmpType, fold-IcmpCode, fold-Dscp, fold-Established, fold-Not, fold-And, fold-Or}
 use Rattle.np_pred.proofs.PatternLaws.{addresses_text-some}
 use Rattle.np_pred.proofs.TextBackLaws.{BeginsWithDigit, decimal_begins, begins_before, both_true}
 use Rattle.np_pred.proofs.ReadBackLaws.{addresses_begin}
@@ -77,20 +80,30 @@ addresses_plain (p ∷ ps) =
 pub decimal_plain : (n : ℕ) → n < 2 ^ 64 → is_file_name (decimal n) ≡ true
 decimal_plain n small = begun_plain (decimal n) (decimal_begins n small) (decimal_printable n small)
 
--- ---- ports and protocols
+-- ---- ports, values of DSCP and protocols
 
 either_plain : (b : Bool) (x y : List ℕ) → is_file_name x ≡ true → is_file_name y ≡ true → is_file_name (cond b x y) ≡ true
 either_plain true x y h k = h
 either_plain false x y h k = k
 
+bounds_plain : (low high : ℕ) → low < 2 ^ 64 → high < 2 ^ 64 → is_file_name (bounds_text low high) ≡ true
+unfolding bounds_text
+bounds_plain low high a b =
+    either_plain (low == high) (decimal low) (decimal low ++ (45 ∷ decimal high)) (decimal_plain low a)
+    (begun_plain (decimal low ++ (45 ∷ decimal high)) (begins_before (decimal low) _ (decimal_begins low a))
+    (append_printable (decimal low) (45 ∷ decimal high) (decimal_printable low a) (decimal_printable high b)))
+
 ports_plain : (s : Span) → is_file_name (ports_text s) ≡ true
-unfolding ports_text
 ports_plain s =
     let small : s.high < 65536 = s.width in
     let ordered : s.low ≤ s.high = s.ordered in
-    either_plain (s.low == s.high) (decimal s.low) (decimal s.low ++ (45 ∷ decimal s.high)) (decimal_plain s.low (omega arith))
-    (begun_plain (decimal s.low ++ (45 ∷ decimal s.high)) (begins_before (decimal s.low) _ (decimal_begins s.low (omega arith)))
-    (append_printable (decimal s.low) (45 ∷ decimal s.high) (decimal_printable s.low (omega arith)) (decimal_printable s.high (omega arith))))
+    bounds_plain s.low s.high (omega arith) (omega arith)
+
+dscp_plain : (s : DscpSpan) → is_file_name (dscp_text s) ≡ true
+dscp_plain s =
+    let small : s.high ≤ 63 = s.width in
+    let ordered : s.low ≤ s.high = s.ordered in
+    bounds_plain s.low s.high (omega arith) (omega arith)
 
 either_are_plain : (b : Bool) (xs ys : Words) → ArePlain xs → ArePlain ys → ArePlain (cond b xs ys)
 either_are_plain true xs ys h k = h
@@ -119,6 +132,7 @@ plain_inductive = record {
   at-DstPort = λ x h. rw (fold-DstPort Words words_step x) (refl, (ports_plain x, tt));
   at-IcmpType = λ x h. let small = ltb-true x 256 (sym (fold-IcmpType Bool octets_step x) ∙ h) in rw (fold-IcmpType Words words_step x) (refl, (decimal_plain x (omega arith), tt));
   at-IcmpCode = λ x h. let small = ltb-true x 256 (sym (fold-IcmpCode Bool octets_step x) ∙ h) in rw (fold-IcmpCode Words words_step x) (refl, (decimal_plain x (omega arith), tt));
+  at-Dscp = λ x h. rw (fold-Dscp Words words_step x) (refl, (dscp_plain x, tt));
   at-Established = λ h. rw (fold-Established Words words_step) (refl, tt);
   at-Not = λ p k h. rw (fold-Not Words words_step p) (refl, k (sym (fold-Not Bool octets_step p) ∙ h));
   at-And = λ p q k l h.

@@ -5,12 +5,13 @@ use Rattle.std.specs.Fmt.{decimal}
 use Rattle.np_net.specs.Limits.{depth_limit}
 use Rattle.np_net.specs.Names.{is_file_name}
 use Rattle.np_net.specs.Network.{IsArea, IsDevice, IsInterface, IsGoal, IsNetwork}
+use Rattle.np_net.specs.Naming.{area_name, device_name}
 use Rattle.np_net.specs.Plan.{Plan}
 use Rattle.np_net.specs.declared.filtering.Area.{Area}
 use Rattle.np_net.specs.declared.filtering.Device.{Device}
 use Rattle.np_net.specs.declared.filtering.Interface.{Interface}
 use Rattle.np_net.specs.declared.filtering.Goal.{Goal}
-use Rattle.np_net_read.specs.Canonical.{trusted_words, config_words, area_words, device_words, interface_words, slot_line, free_lines, goal_words, area_name, device_name, only_word, filtering_lines}
+use Rattle.np_net_read.specs.Canonical.{trusted_words, config_words, area_words, device_words, interface_words, slot_line, free_lines, goal_words, only_word, filtering_lines}
 use Rattle.np_net_read.proofs.ChainLaws.{ArePlainLines, plain_lines_append}
 use Rattle.np_net_read.proofs.PlainForms.{addresses_plain, decimal_plain, pred_plain}
 use Rattle.np_net_read.proofs.PlainWords.{ArePlain, plain_append, name_plain, interface_name_plain}

@@ -5,9 +5,9 @@ use Rattle.std.specs.List.{list_all, AllByRecursion, join_with_byte}
 use Rattle.std.proofs.lemmas.Bool.{and_parts, and_from, lt-ltb}
 use Rattle.std.proofs.lemmas.Bool.Decides.{nat_tests}
 use Rattle.std.proofs.lemmas.List.Folds.{list_all-append}
-use Rattle.np_text.specs.Joined.{is_word, is_word_byte, joined_line}
+use Rattle.np_text.specs.Joined.{AreWords, is_word, is_word_byte, joined_line}
 use Rattle.np_net.specs.Names.{is_name_byte, is_interface_byte, is_file_byte, is_named_by, is_name, is_interface_name, is_file_name}
-use Rattle.np_net_read.specs.Judging.{is_text_byte}
+use Rattle.np_lines.specs.Skipping.{is_text_byte}
 
 abbrev Words : Type 0
 Words = List (List ℕ)
@@ -34,7 +34,7 @@ byte_in_word b h = grind (arith, nat_tests)
 plain_word : (word : List ℕ) → is_file_name word ≡ true → is_word word ≡ true
 plain_word word h = let parts = and_parts _ _ h in and_from _ _ parts.0 (all_pass is_file_byte is_word_byte byte_in_word word parts.1)
 
-pub plain_words : (words : Words) → ArePlain words → AllByRecursion (λ word. is_word word ≡ true) words
+pub plain_words : (words : Words) → ArePlain words → AreWords words
 plain_words [] h = tt
 plain_words (word ∷ words) h = (plain_word word h.0, plain_words words h.1)
 

@@ -1,4 +1,4 @@
--- A statement that fits behind what is declared leaves declarations that make a network.
+-- A statement that fits after what is declared leaves declarations that make a network.
 use Rattle.std.proofs.Common.{◌≡◌, ℕ, ◌<◌, ◌≤◌, ◌*◌, Bool, false, List, [], ◌∷◌, ◌++◌, length, map, arith}
 use Rattle.std.specs.List.{list_any}
 use Rattle.std.specs.Str.{bytes_eq}

@@ -9,6 +9,7 @@ use Rattle.np_pred.proofs.ReadBackLaws.{addresses_of-text, pred_of_words}
 use Rattle.np_net.specs.Distinct.{AreNewAfter, same_place}
 use Rattle.np_net.specs.Limits.{declaration_limit, interface_limit, depth_limit}
 use Rattle.np_net.specs.Network.{IsArea, IsDevice, IsInterface, IsGoal, IsNetwork}
+use Rattle.np_net.specs.Naming.{area_name, device_name}
 use Rattle.np_net.specs.Plan.{Plan, area_names, device_names, interface_names}
 use Rattle.np_net.specs.declared.filtering.Area.{Area}
 use Rattle.np_net.specs.declared.filtering.Device.{Device}
@@ -16,12 +17,12 @@ use Rattle.np_net.specs.declared.filtering.Interface.{Interface}
 use Rattle.np_net.specs.declared.filtering.Goal.{Goal}
 use Rattle.np_net_read.specs.declared.declared.Declared.{Declared}
 use Rattle.np_net_read.specs.declared.statement.Statement.TheVariants as statement
-use Rattle.np_net_read.specs.Canonical.{trusted_words, config_words, depth_words, area_words, device_words, interface_words, goal_words, area_name, device_name, only_word}
-use Rattle.np_net_read.specs.Declaring.{source_list}
+use Rattle.np_net_read.specs.Canonical.{trusted_words, config_words, depth_words, area_words, device_words, interface_words, goal_words, only_word}
+use Rattle.np_net.specs.Sources.{source_list}
 use Rattle.np_net_read.specs.Fitting.{IsNewDepth, IsNewArea, IsNewDevice}
 use Rattle.np_net_read.specs.Judging.{named, only_of, trusted_of, options_of, words_say, depth_says, area_says, device_says, interface_says, goal_says}
 use Rattle.np_net_read.proofs.ChainLaws.{ReadsInto}
-use Rattle.np_net_read.proofs.PlaceLaws.{name_found}
+use Rattle.np_net.proofs.NamingLaws.{name_found}
 
 -- ---- the depth
 
@@ -74,7 +75,7 @@ devices_read declared (device ∷ devices) new formed room =
 
 -- ---- what follows the areas and devices names them
 
--- what is declared behind the areas and devices of the network
+-- what is declared after the areas and devices of the network
 abbrev pub stage : Plan → List Interface → List ℕ → List Goal → Declared
 stage net interfaces freed goals = record { areas = net.areas; devices = net.devices; interfaces = interfaces; freed = freed; goals = goals; depth = Some net.depth }
 

@@ -47,7 +47,7 @@ words_of_text net is alone = words_of_plain (net_lines net) (lines_plain net is 
 
 -- ---- its lines declare it
 
--- the first of a list's items stand behind none
+-- the first of a list's items stand after none
 room : {X : Type 0} (xs : List X) {limit : ℕ} → length xs ≤ limit → 0 + length xs ≤ limit
 room xs h = omega arith
 

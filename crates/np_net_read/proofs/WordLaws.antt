@@ -4,7 +4,7 @@ use Rattle.std.specs.List.{list_all, onto_first}
 use Rattle.std.proofs.lemmas.Bool.{cases_Bool, and_from, and_parts, lt-ltb}
 use Rattle.np_text.specs.Words.{is_blank, ends_word, words_of}
 use Rattle.np_net.specs.Names.{is_file_byte}
-use Rattle.np_net_read.specs.Judging.{is_text_byte}
+use Rattle.np_lines.specs.Skipping.{is_text_byte}
 use Rattle.np_net_read.specs.Words.{AreWords}
 
 -- a byte of a network's text that is no blank may stand in a file's name

@@ -1,10 +1,11 @@
 -- The canonical text of a network.
-use Rattle.std.specs.Prelude.{ℕ, Bool, false, List, [], ◌∷◌, ◌++◌, map, Option, Some, None, codes, if◌then◌else◌, slice_index_or}
+use Rattle.std.specs.Prelude.{ℕ, Bool, false, List, [], ◌∷◌, ◌++◌, map, Option, Some, None, codes, if◌then◌else◌}
 use Rattle.std.specs.Fmt.{decimal}
 use Rattle.np_text.specs.Joined.{joined_text}
 use Rattle.np_pred.specs.Canonical.{pred_words}
 use Rattle.np_pred.specs.Patterns.{addresses_text}
-use Rattle.np_net.specs.Plan.{Plan, area_names, device_names, sa_names}
+use Rattle.np_net.specs.Naming.{area_name, device_name, sa_name}
+use Rattle.np_net.specs.Plan.{Plan}
 use Rattle.np_net.specs.declared.filtering.Area.{Area}
 use Rattle.np_net.specs.declared.filtering.Device.{Device}
 use Rattle.np_net.specs.declared.filtering.Interface.{Interface}
@@ -25,24 +26,6 @@ use Rattle.np_net.specs.declared.associations.OutRule.{OutRule}
 use Rattle.np_net.specs.declared.associations.Table.{Table}
 use Rattle.np_net.specs.declared.associations.IpGoal.{IpGoal}
 use Rattle.np_net.specs.declared.associations.IpGoal.TheVariants as ipgoal
-
--- ---- names
-
--- the name of this number
-abbrev pub name_at : List (List ℕ) → ℕ → List ℕ
-name_at names n = slice_index_or names n []
-
--- the name of an area
-abbrev pub area_name : Plan → ℕ → List ℕ
-area_name net n = name_at (area_names net.areas) n
-
--- the name of a device
-abbrev pub device_name : Plan → ℕ → List ℕ
-device_name net n = name_at (device_names net.devices) n
-
--- the name of a security association
-abbrev pub sa_name : Plan → ℕ → List ℕ
-sa_name net n = name_at (sa_names net.sas) n
 
 -- ---- the filtering part
 
@@ -97,9 +80,11 @@ goal_words net goal = codes "goal" ∷ area_name net goal.from ∷ area_name net
 
 -- ---- the IPsec part
 
--- `esp` or `ah`
+-- `esp`, `esp-enc`, `esp-null` or `ah`
 abbrev pub kind_word : Kind → List ℕ
 kind_word kind.Esp = codes "esp"
+kind_word kind.EspEnc = codes "esp-enc"
+kind_word kind.EspNull = codes "esp-null"
 kind_word kind.Ah = codes "ah"
 
 -- the words of a security association

@@ -1,7 +1,6 @@
 -- What the statements of a text declare.
 use Rattle.std.specs.Prelude.{ℕ, ◌*◌, Bool, nat_eq, List, [], ◌∷◌, length, map, Option, Some, None}
 use Rattle.std.specs.List.{filter_map, list_any, range_with_len}
-use Rattle.np_pred.specs.Areas.{AreaList}
 use Rattle.np_net.specs.Plan.{Plan}
 use Rattle.np_net.specs.declared.filtering.Area.{Area}
 use Rattle.np_net.specs.declared.filtering.Device.{Device}
@@ -108,7 +107,3 @@ network_of declared = record {
   ipgoals = [];
   depth = depth_or_default declared.depth;
 }
-
--- the areas as predicates name them
-abbrev pub source_list : List Area → AreaList
-source_list areas = map (λ area. (area.name, area.sources)) areas

@@ -1,5 +1,5 @@
--- Statements that may stand behind what is declared, and declarations that make a network.
-use Rattle.std.specs.Prelude.{◌≡◌, ℕ, ◌*◌, ◌<◌, ◌≤◌, false, nat_eq, [], ◌∷◌, ◌++◌, length, Option, Some, None, IfSome}
+-- Statements that may stand after what is declared, and declarations that make a network.
+use Rattle.std.specs.Prelude.{◌≡◌, ℕ, ◌*◌, ◌<◌, ◌≤◌, false, nat_eq, [], ◌∷◌, ◌++◌, length, Some, None, IfSome}
 use Rattle.std.specs.List.{AllByRecursion, list_any}
 use Rattle.std.specs.Str.{bytes_eq}
 use Rattle.np_net.specs.Distinct.{AreDistinct, same_place}
@@ -48,7 +48,7 @@ pub record IsNewGoal (declared : Declared) (goal : Goal) : Type 0 where
   pub formed : IsGoal (length declared.areas) goal
   pub room : length declared.goals < declaration_limit
 
--- a statement that may stand behind what is declared
+-- a statement that may stand after what is declared
 abbrev pub Fits : Declared → Statement → Type 0
 Fits declared (statement.Depth depth) = IsNewDepth declared depth
 Fits declared (statement.Area area) = IsNewArea declared area
@@ -65,11 +65,6 @@ added declared (statement.Device device) = record declared { devices = declared.
 added declared (statement.Interface interface) = record declared { interfaces = declared.interfaces ++ interface ∷ [] }
 added declared (statement.Free slot) = record declared { freed = declared.freed ++ slot ∷ [] }
 added declared (statement.Goal goal) = record declared { goals = declared.goals ++ goal ∷ [] }
-
--- the same with a statement, where there is one
-abbrev pub added_if : Declared → Option Statement → Declared
-added_if declared None = declared
-added_if declared (Some statement) = added declared statement
 
 -- declarations that make a network
 pub record IsSound (declared : Declared) : Type 0 where

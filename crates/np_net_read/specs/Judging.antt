@@ -1,17 +1,24 @@
 -- How a line is judged against what the lines before it declare.
-use Rattle.std.specs.Prelude.{ℕ, ◌+◌, ◌*◌, Bool, true, false, ◌&&◌, ◌||◌, ◌==◌, nat_eq, nat_le, nat_lt, List, [], ◌∷◌, length, Option, Some, None, Result, Ok, Err, codes, if◌then◌else◌, position}
+use Rattle.std.specs.Prelude.{ℕ, ◌+◌, ◌*◌, Bool, true, false, ◌&&◌, ◌||◌, ◌==◌, nat_eq, nat_le, nat_lt, List, [], ◌∷◌, length, Option, Some, None, Result, Ok, Err, codes, if◌then◌else◌}
 use Rattle.std.specs.List.{list_all, list_any}
 use Rattle.std.specs.Option.{ok_or}
 use Rattle.std.specs.Str.{bytes_eq}
 use Rattle.np_text.specs.Numbers.{number_of}
 use Rattle.np_text.specs.Words.{words_of}
+use Rattle.np_lines.specs.Judging.{Judged, ◌>>=◌, word_in, ended, within}
+use Rattle.np_lines.specs.Skipping.{is_text_byte}
+use Rattle.np_lines.specs.Skipping as skipping
 use Rattle.np_space.specs.declared.patterns.Ternary.{Ternary}
 use Rattle.np_pred.specs.declared.predicate.Pred.{Pred}
-use Rattle.np_pred.specs.declared.pred_error.PredError.{PredError}
-use Rattle.np_pred.specs.declared.pred_error.PredError.TheVariants as unread
+use Rattle.np_pred.specs.declared.pred_error.PredFault.{PredFault}
 use Rattle.np_pred.specs.Patterns.{addresses_of}
 use Rattle.np_pred.specs.Reading.{pred_of}
 use Rattle.np_net.specs.Distinct.{same_place}
+use Rattle.np_net.specs.Faults.{pred_why}
+use Rattle.np_net.specs.Naming.{id_named, interface_id_named}
+use Rattle.np_net.specs.Sources.{source_list}
+use Rattle.np_net.specs.declared.pred_faults.PredWhy.{PredWhy}
+use Rattle.np_net.specs.declared.pred_faults.PredWhy.TheVariants as unread
 use Rattle.np_net.specs.Limits.{declaration_limit, interface_limit, depth_limit}
 use Rattle.np_net.specs.Names.{is_name, is_interface_name}
 use Rattle.np_net.specs.Plan.{area_names, device_names, interface_names}
@@ -20,61 +27,55 @@ use Rattle.np_net_read.specs.declared.statement.Statement.{Statement}
 use Rattle.np_net_read.specs.declared.statement.Statement.TheVariants as statement
 use Rattle.np_net_read.specs.declared.fault.NetWhy.{NetWhy}
 use Rattle.np_net_read.specs.declared.fault.NetWhy.TheVariants as why
-use Rattle.np_net_read.specs.Declaring.{source_list}
-use Rattle.np_net_read.specs.Why.{Judged, ◌>>=◌, word_in, ended, within}
 
 -- ---- single words
 
--- a byte of a network's text: a printable character, a tab or a carriage return
-abbrev pub is_text_byte : ℕ → Bool
-is_text_byte b = (nat_le 32 b && nat_le b 126) || b == 9 || b == 13
-
 -- a name that is new among these
-abbrev pub new_name : List (List ℕ) → List ℕ → Judged (List ℕ)
+abbrev pub new_name : List (List ℕ) → List ℕ → Judged NetWhy (List ℕ)
 new_name names word = if is_name word then (if list_any (bytes_eq word) names then Err why.Duplicate else Ok word) else Err why.BadName
 
 -- the name of an interface that is new among these, each by its device and its name
-abbrev pub new_interface_name : List (ℕ × List ℕ) → ℕ → List ℕ → Judged (List ℕ)
+abbrev pub new_interface_name : List (ℕ × List ℕ) → ℕ → List ℕ → Judged NetWhy (List ℕ)
 new_interface_name places device word =
     if is_interface_name word then (if list_any (same_place (device, word)) places then Err why.Duplicate else Ok word) else Err why.BadName
 
 -- the number of a name among these
-abbrev pub named : List (List ℕ) → List ℕ → Judged ℕ
-named names word = ok_or (position (bytes_eq word) names) why.UnknownName
+abbrev pub named : List (List ℕ) → List ℕ → Judged NetWhy ℕ
+named names word = ok_or (id_named names word) why.UnknownName
 
 -- the number of an interface among these, by its device and its name
-abbrev pub interface_named : List (ℕ × List ℕ) → ℕ → List ℕ → Judged ℕ
-interface_named places device word = ok_or (position (same_place (device, word)) places) why.UnknownName
+abbrev pub interface_named : List (ℕ × List ℕ) → ℕ → List ℕ → Judged NetWhy ℕ
+interface_named places device word = ok_or (interface_id_named places device word) why.UnknownName
 
 -- the prefixes of an area
-abbrev pub sources_of : List ℕ → Judged (List Ternary)
+abbrev pub sources_of : List ℕ → Judged NetWhy (List Ternary)
 sources_of word = ok_or (addresses_of word) why.BadNumber
 
 -- a depth is at least 1
-abbrev pub positive : Option ℕ → Judged ℕ
+abbrev pub positive : Option ℕ → Judged NetWhy ℕ
 positive None = Err why.BadNumber
 positive (Some n) = if nat_lt 0 n then Ok n else Err why.BadNumber
 
 -- a depth of 1 to 16
-abbrev pub depth_of : List ℕ → Judged ℕ
+abbrev pub depth_of : List ℕ → Judged NetWhy ℕ
 depth_of word = positive (number_of word depth_limit)
 
 -- the slot of an interface in a way
-abbrev pub slot_of : ℕ → List ℕ → Judged ℕ
+abbrev pub slot_of : ℕ → List ℕ → Judged NetWhy ℕ
 slot_of interface word =
     if bytes_eq word (codes "in") then Ok (2 * interface) else
     (if bytes_eq word (codes "out") then Ok (2 * interface + 1) else Err why.BadShape)
 
 -- a slot that is freed by none before it
-abbrev pub new_slot : List ℕ → ℕ → Judged ℕ
+abbrev pub new_slot : List ℕ → ℕ → Judged NetWhy ℕ
 new_slot freed slot = if list_any (nat_eq slot) freed then Err why.Duplicate else Ok slot
 
 -- an area that isn't this one
-abbrev pub other_than : ℕ → ℕ → Judged ℕ
+abbrev pub other_than : ℕ → ℕ → Judged NetWhy ℕ
 other_than first second = if first == second then Err why.SameArea else Ok second
 
 -- whether the packets of a predicate are the only ones that may pass
-abbrev pub only_of : List ℕ → Judged Bool
+abbrev pub only_of : List ℕ → Judged NetWhy Bool
 only_of word =
     if bytes_eq word (codes "never") then Ok false else
     (if bytes_eq word (codes "only") then Ok true else Err why.BadShape)
@@ -82,88 +83,85 @@ only_of word =
 -- ---- the words at the end of a statement
 
 -- `trusted`, or nothing
-abbrev pub trusted_of : List (List ℕ) → Judged Bool
+abbrev pub trusted_of : List (List ℕ) → Judged NetWhy Bool
 trusted_of [] = Ok false
 trusted_of (word ∷ []) = if bytes_eq word (codes "trusted") then Ok true else Err why.BadShape
 trusted_of (word ∷ more ∷ words) = Err why.BadShape
 
 -- `config FILE`, or nothing, and then `trusted`, or nothing
-abbrev pub options_of : List (List ℕ) → Judged (Option (List ℕ) × Bool)
+abbrev pub options_of : List (List ℕ) → Judged NetWhy (Option (List ℕ) × Bool)
 options_of [] = Ok (None, false)
 options_of (word ∷ []) = if bytes_eq word (codes "trusted") then Ok (None, true) else Err why.BadShape
 options_of (word ∷ file ∷ words) =
     if bytes_eq word (codes "config") then (trusted_of words >>= λ trusted. Ok (Some file, trusted)) else Err why.BadShape
 
--- the fault of words that are no predicate
-abbrev pub why_unread : PredError → NetWhy
-why_unread (unread.BadWord at) = why.BadPred
-why_unread unread.Unfinished = why.BadPred
-why_unread (unread.Extra at) = why.BadPred
-why_unread (unread.TooDeep at) = why.TooDeep
-why_unread (unread.UnknownArea at) = why.UnknownName
-why_unread (unread.Memory error) = why.BadPred
+-- the cause of a line whose predicate has this one
+abbrev pub cause_of : PredWhy → NetWhy
+cause_of unread.BadPred = why.BadPred
+cause_of unread.TooDeep = why.TooDeep
+cause_of unread.UnknownName = why.UnknownName
 
 -- what reading a predicate gives, as it is judged
-abbrev pub pred_or_why : Result Pred PredError → Judged Pred
+abbrev pub pred_or_why : Result Pred PredFault → Judged NetWhy Pred
 pred_or_why (Ok pred) = Ok pred
-pred_or_why (Err error) = Err (why_unread error)
+pred_or_why (Err fault) = Err (cause_of (pred_why fault))
 
 -- the predicate that the words are
-abbrev pub pred_in : Declared → List (List ℕ) → Judged Pred
+abbrev pub pred_in : Declared → List (List ℕ) → Judged NetWhy Pred
 pred_in declared words = pred_or_why (pred_of (source_list declared.areas) words)
 
 -- ---- statements, each without its first word
 
 -- these words, where no depth is declared
-abbrev pub undeclared : Option ℕ → List (List ℕ) → Judged (List (List ℕ))
+abbrev pub undeclared : Option ℕ → List (List ℕ) → Judged NetWhy (List (List ℕ))
 undeclared None words = Ok words
 undeclared (Some depth) words = Err why.Duplicate
 
 -- `depth D`
-unfoldable pub depth_says : Declared → List (List ℕ) → Judged Statement
+unfoldable pub depth_says : Declared → List (List ℕ) → Judged NetWhy Statement
 depth_says declared words =
-    undeclared declared.depth words >>= λ words. word_in words >>= λ depth. depth_of depth.0 >>= λ d. ended depth.1 (statement.Depth d)
+    undeclared declared.depth words >>= λ words. word_in why.BadShape words >>= λ depth. depth_of depth.0 >>= λ d. ended why.BadShape depth.1 (statement.Depth d)
 
 -- `area NAME ADDRS [trusted]`
-unfoldable pub area_says : Declared → List (List ℕ) → Judged Statement
+unfoldable pub area_says : Declared → List (List ℕ) → Judged NetWhy Statement
 area_says declared words =
-    word_in words >>= λ name. new_name (area_names declared.areas) name.0 >>= λ n.
-    word_in name.1 >>= λ addresses. sources_of addresses.0 >>= λ s.
+    word_in why.BadShape words >>= λ name. new_name (area_names declared.areas) name.0 >>= λ n.
+    word_in why.BadShape name.1 >>= λ addresses. sources_of addresses.0 >>= λ s.
     trusted_of addresses.1 >>= λ t.
-    within declaration_limit (length declared.areas) (statement.Area (record { name = n; sources = s; trusted = t }))
+    within why.TooMany declaration_limit (length declared.areas) (statement.Area (record { name = n; sources = s; trusted = t }))
 
 -- `device NAME [config FILE] [trusted]`
-unfoldable pub device_says : Declared → List (List ℕ) → Judged Statement
+unfoldable pub device_says : Declared → List (List ℕ) → Judged NetWhy Statement
 device_says declared words =
-    word_in words >>= λ name. new_name (device_names declared.devices) name.0 >>= λ n.
+    word_in why.BadShape words >>= λ name. new_name (device_names declared.devices) name.0 >>= λ n.
     options_of name.1 >>= λ options.
-    within declaration_limit (length declared.devices) (statement.Device (record { name = n; config = options.0; trusted = options.1 }))
+    within why.TooMany declaration_limit (length declared.devices) (statement.Device (record { name = n; config = options.0; trusted = options.1 }))
 
 -- `interface DEV IF AREA`
-unfoldable pub interface_says : Declared → List (List ℕ) → Judged Statement
+unfoldable pub interface_says : Declared → List (List ℕ) → Judged NetWhy Statement
 interface_says declared words =
-    word_in words >>= λ device. named (device_names declared.devices) device.0 >>= λ d.
-    word_in device.1 >>= λ name. new_interface_name (interface_names declared.interfaces) d name.0 >>= λ n.
-    word_in name.1 >>= λ area. named (area_names declared.areas) area.0 >>= λ a.
-    ended area.1 a >>= λ a.
-    within interface_limit (length declared.interfaces) (statement.Interface (record { name = n; device = d; area = a }))
+    word_in why.BadShape words >>= λ device. named (device_names declared.devices) device.0 >>= λ d.
+    word_in why.BadShape device.1 >>= λ name. new_interface_name (interface_names declared.interfaces) d name.0 >>= λ n.
+    word_in why.BadShape name.1 >>= λ area. named (area_names declared.areas) area.0 >>= λ a.
+    ended why.BadShape area.1 a >>= λ a.
+    within why.TooMany interface_limit (length declared.interfaces) (statement.Interface (record { name = n; device = d; area = a }))
 
 -- `free DEV IF in` or `free DEV IF out`
-unfoldable pub free_says : Declared → List (List ℕ) → Judged Statement
+unfoldable pub free_says : Declared → List (List ℕ) → Judged NetWhy Statement
 free_says declared words =
-    word_in words >>= λ device. named (device_names declared.devices) device.0 >>= λ d.
-    word_in device.1 >>= λ name. interface_named (interface_names declared.interfaces) d name.0 >>= λ i.
-    word_in name.1 >>= λ way. slot_of i way.0 >>= λ slot. new_slot declared.freed slot >>= λ slot.
-    ended way.1 (statement.Free slot)
+    word_in why.BadShape words >>= λ device. named (device_names declared.devices) device.0 >>= λ d.
+    word_in why.BadShape device.1 >>= λ name. interface_named (interface_names declared.interfaces) d name.0 >>= λ i.
+    word_in why.BadShape name.1 >>= λ way. slot_of i way.0 >>= λ slot. new_slot declared.freed slot >>= λ slot.
+    ended why.BadShape way.1 (statement.Free slot)
 
 -- `goal AREA AREA never PRED` or `goal AREA AREA only PRED`
-unfoldable pub goal_says : Declared → List (List ℕ) → Judged Statement
+unfoldable pub goal_says : Declared → List (List ℕ) → Judged NetWhy Statement
 goal_says declared words =
-    word_in words >>= λ from. named (area_names declared.areas) from.0 >>= λ f.
-    word_in from.1 >>= λ to. named (area_names declared.areas) to.0 >>= λ t. other_than f t >>= λ t.
-    word_in to.1 >>= λ keyword. only_of keyword.0 >>= λ o.
+    word_in why.BadShape words >>= λ from. named (area_names declared.areas) from.0 >>= λ f.
+    word_in why.BadShape from.1 >>= λ to. named (area_names declared.areas) to.0 >>= λ t. other_than f t >>= λ t.
+    word_in why.BadShape to.1 >>= λ keyword. only_of keyword.0 >>= λ o.
     pred_in declared keyword.1 >>= λ p.
-    within declaration_limit (length declared.goals) (statement.Goal (record { from = f; to = t; only = o; pred = p }))
+    within why.TooMany declaration_limit (length declared.goals) (statement.Goal (record { from = f; to = t; only = o; pred = p }))
 
 -- ---- lines
 
@@ -178,7 +176,7 @@ abbrev pub why_no_statement : List ℕ → NetWhy
 why_no_statement word = if is_unbuilt word then why.NotBuilt else why.UnknownStatement
 
 -- a statement, by its first word and the others
-abbrev pub statement_says : Declared → List ℕ → List (List ℕ) → Judged Statement
+abbrev pub statement_says : Declared → List ℕ → List (List ℕ) → Judged NetWhy Statement
 statement_says declared word words =
     if bytes_eq word (codes "depth") then depth_says declared words else
     (if bytes_eq word (codes "area") then area_says declared words else
@@ -188,17 +186,10 @@ statement_says declared word words =
     (if bytes_eq word (codes "goal") then goal_says declared words else
     Err (why_no_statement word))))))
 
--- a comment's first word begins with `#`
-abbrev pub is_comment : List ℕ → Bool
-is_comment [] = false
-is_comment (b ∷ bs) = b == 35
-
--- A line without words and a comment declare nothing. Each other line is one statement.
-abbrev pub words_say : Declared → List (List ℕ) → Judged (Option Statement)
-words_say declared [] = Ok None
-words_say declared (word ∷ words) =
-    if is_comment word then Ok None else (statement_says declared word words >>= λ s. Ok (Some s))
+-- a line without words and a comment, which begins with `#`, declare nothing; each other line is one statement
+abbrev pub words_say : Declared → List (List ℕ) → Judged NetWhy (Option Statement)
+words_say declared words = skipping.words_say 35 (λ word others. statement_says declared word others >>= λ s. Ok (Some s)) words
 
 -- what a line declares after lines that declare this; the bytes of a comment are judged too
-unfoldable pub line_says : Declared → List ℕ → Judged (Option Statement)
+unfoldable pub line_says : Declared → List ℕ → Judged NetWhy (Option Statement)
 line_says declared line = if list_all is_text_byte line then words_say declared (words_of line) else Err why.NotText

@@ -1,35 +1,13 @@
 -- What a network's text is: a network, or its first faulty line with that line's first fault.
-use Rattle.std.specs.Prelude.{ℕ, ◌+◌, List, [], ◌∷◌, ◌++◌, Option, Some, None, Result, Ok, Err}
-use Rattle.np_text.specs.Lines.{lines_of}
+use Rattle.std.specs.Prelude.{ℕ, List}
+use Rattle.np_lines.specs.Declaring.{text_gives}
+use Rattle.np_lines.specs.Judging.{Judged}
+use Rattle.np_lines.specs.declared.fault.LineFault.{LineFault}
 use Rattle.np_net.specs.Plan.{Plan}
-use Rattle.np_net_read.specs.declared.fault.NetFault.{NetFault}
-use Rattle.np_net_read.specs.declared.statement.Statement.{Statement}
+use Rattle.np_net_read.specs.declared.fault.NetWhy.{NetWhy}
 use Rattle.np_net_read.specs.Declaring.{declared_by, network_of}
 use Rattle.np_net_read.specs.Judging.{line_says}
-use Rattle.np_net_read.specs.Why.{Judged}
 
--- these statements, with one more where there is one
-abbrev pub and_one : List Statement → Option Statement → List Statement
-and_one statements None = statements
-and_one statements (Some statement) = statements ++ statement ∷ []
-
--- goes on with what a line of this number says, or gives its fault
-abbrev pub or_fault : {A B : Type 0} → ℕ → Judged A → (A → Result B NetFault) → Result B NetFault
-or_fault number (Ok x) next = next x
-or_fault number (Err why) next = Err (record { line = number; why = why })
-
--- The statements of a text whose lines so far have these, and whose other lines follow, the first of them with this number. Each line is
--- judged against what the statements on the lines before it declare, and the first faulty line decides.
-abbrev pub statements_from : List Statement → ℕ → List (List ℕ) → Result (List Statement) NetFault
-statements_from before number [] = Ok before
-statements_from before number (line ∷ lines) =
-    or_fault number (line_says (declared_by before) line) (λ said. statements_from (and_one before said) (number + 1) lines)
-
--- the network of a text's statements, or the fault
-abbrev pub network_or_fault : Result (List Statement) NetFault → Result Plan NetFault
-network_or_fault (Ok statements) = Ok (network_of (declared_by statements))
-network_or_fault (Err fault) = Err fault
-
--- the network that a text declares, or its first fault
-abbrev pub net_of : List ℕ → Result Plan NetFault
-net_of text = network_or_fault (statements_from [] 1 (lines_of text))
+-- The network that a text declares, or its first fault. Each line is judged against what the statements on the lines before it declare.
+abbrev pub net_of : List ℕ → Judged (LineFault NetWhy) Plan
+net_of text = text_gives line_says declared_by network_of text

@@ -8,8 +8,8 @@ ghost use Rattle.np_net_read.specs.Canonical as canonical;
 ghost use Rattle.np_net_read.specs.CanonicalText.{line_text, lines_text, spaced};
 
 use crate::canonical_ipsec::put_ipsec;
-use crate::canonical_words::{area_name, device_name, put_place, put_pred_words, put_word};
-use np_net::{Area, Device, Goal, Interface, Network};
+use crate::canonical_words::{put_place, put_pred_words, put_word};
+use np_net::{Area, Device, Goal, Interface, Network, area_name, device_name};
 use np_pred::put_addresses;
 use np_text::{Name, put_number};
 use std::alloc::{AllocError, Global};
@@ -24,7 +24,7 @@ fn put_depth(out: &mut Vec<u8>, depth: u8) -> Result<(), AllocError>
     Ok(())
 }
 
-// Appends `trusted` behind a space, or nothing.
+// Appends `trusted` after a space, or nothing.
 fn put_trusted(out: &mut Vec<u8>, trusted: bool) -> Result<(), AllocError>
     ensures { OnOk result (out.new.items ≡ out.old.items ++ spaced (canonical.trusted_words trusted)) }
 {
@@ -57,7 +57,7 @@ fn put_areas(out: &mut Vec<u8>, areas: &[Area]) -> Result<(), AllocError>
     Ok(())
 }
 
-// Appends `config` and the file's name, each behind a space, or nothing.
+// Appends `config` and the file's name, each after a space, or nothing.
 fn put_config(out: &mut Vec<u8>, config: &Option<Name>) -> Result<(), AllocError>
     ensures { OnOk result (out.new.items ≡ out.old.items ++ spaced (canonical.config_words config.now)) }
 {

@@ -6,12 +6,10 @@ ghost use Rattle.np_net.specs.Network.{AreTables, IsInRule, IsIpGoal, IsMatch, I
 ghost use Rattle.np_net_read.specs.Canonical as canonical;
 ghost use Rattle.np_net_read.specs.CanonicalText.{line_text, lines_text, spaced};
 
-use crate::canonical_words::{
-    area_name, device_name, put_place, put_pred_words, put_word, sa_name,
-};
+use crate::canonical_words::{put_place, put_pred_words, put_word};
 use np_net::{
     InAction, InRule, Interface, IpGoal, Kind, MarkTest, Match, Network, OutAction, OutRule, Sa,
-    SaId, Table,
+    SaId, Table, area_name, device_name, sa_name,
 };
 use std::alloc::AllocError;
 
@@ -20,6 +18,8 @@ fn kind_word(kind: Kind) -> &'static [u8]
 {
     match kind {
         Kind::Esp => b"esp",
+        Kind::EspEnc => b"esp-enc",
+        Kind::EspNull => b"esp-null",
         Kind::Ah => b"ah",
     }
 }
@@ -47,7 +47,7 @@ fn put_sas(out: &mut Vec<u8>, net: &Network, sas: &[Sa]) -> Result<(), AllocErro
     Ok(())
 }
 
-// Appends the words of a match, each behind a space.
+// Appends the words of a match, each after a space.
 fn put_match(out: &mut Vec<u8>, net: &Network, top: &Match) -> Result<(), AllocError>
     requires { IsMatch net.now.sas top.now }
     ensures { OnOk result (out.new.items ≡ out.old.items ++ spaced (canonical.match_words net.now top.now)) }
@@ -65,7 +65,7 @@ fn put_match(out: &mut Vec<u8>, net: &Network, top: &Match) -> Result<(), AllocE
     }
 }
 
-// Appends the words of a mark, each behind a space.
+// Appends the words of a mark, each after a space.
 fn put_mark(out: &mut Vec<u8>, net: &Network, mark: MarkTest) -> Result<(), AllocError>
     ensures { OnOk result (out.new.items ≡ out.old.items ++ spaced (canonical.mark_words net.now mark)) }
 {
@@ -88,7 +88,7 @@ fn in_action_word(action: InAction) -> &'static [u8]
     }
 }
 
-// Appends the words of an outward action, each behind a space.
+// Appends the words of an outward action, each after a space.
 fn put_out_action(out: &mut Vec<u8>, net: &Network, action: OutAction) -> Result<(), AllocError>
     ensures { OnOk result (out.new.items ≡ out.old.items ++ spaced (canonical.out_action_words net.now action)) }
 {

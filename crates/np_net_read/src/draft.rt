@@ -6,7 +6,7 @@ ghost use Rattle.std.specs.Str.{bytes_eq};
 ghost use Rattle.np_net_read.specs.Drafting.{IsDraft};
 ghost use Rattle.np_net_read.specs.Fitting.{Fits, IsNewArea, IsNewDevice, IsNewInterface, IsNewSlot, added};
 ghost use Rattle.np_net_read.specs.Declaring.{declared_by};
-ghost use Rattle.np_net_read.specs.Answers.{Gives};
+ghost use Rattle.np_lines.specs.Answers.{Gives};
 ghost use Rattle.np_net_read.specs.Judging as judging;
 ghost use Rattle.np_net_read.specs.declared.statement.Statement.TheVariants as says;
 ghost use Rattle.np_net.specs.Distinct.{same_place};
@@ -15,12 +15,11 @@ ghost use Rattle.np_net.specs.Plan.{area_names, device_names, interface_names};
 
 use crate::declared::Declared;
 use crate::fault::NetWhy;
-use crate::line_error::LineError;
-use crate::names::{Names, Places};
 use crate::statement::Statement;
 use crate::tokens::{interface_named, named, new_interface_name, new_name};
 use indexmap::IndexSet;
-use np_net::{Area, Device, Interface};
+use np_lines::LineError;
+use np_net::{Area, Device, Interface, Names, Places};
 use np_pred::Areas;
 use np_text::Name;
 use sqlite_items::Items;
@@ -139,7 +138,7 @@ impl Draft {
 impl Draft {
     /// The number of a declared area.
     #[tactic(auto, using(crate::proofs::DraftLaws::few_areas))]
-    pub fn area(&self, alloc: Global, word: &[u8]) -> Result<u16, LineError>
+    pub fn area(&self, alloc: Global, word: &[u8]) -> Result<u16, LineError<NetWhy>>
         requires { IsDraft self.now }
         ensures says { Gives result (judging.named (area_names self.now.declared.areas) word.now) }
         ensures within { IfOk result (λ n. n < length self.now.declared.areas) }
@@ -149,7 +148,7 @@ impl Draft {
 
     /// The number of a declared device.
     #[tactic(auto, using(crate::proofs::DraftLaws::few_devices))]
-    pub fn device(&self, alloc: Global, word: &[u8]) -> Result<u16, LineError>
+    pub fn device(&self, alloc: Global, word: &[u8]) -> Result<u16, LineError<NetWhy>>
         requires { IsDraft self.now }
         ensures says { Gives result (judging.named (device_names self.now.declared.devices) word.now) }
         ensures within { IfOk result (λ n. n < length self.now.declared.devices) }
@@ -159,7 +158,12 @@ impl Draft {
 
     /// The number of a declared interface of a device.
     #[tactic(auto, using(crate::proofs::DraftLaws::few_interfaces))]
-    pub fn interface(&self, alloc: Global, device: u16, word: &[u8]) -> Result<u16, LineError>
+    pub fn interface(
+        &self,
+        alloc: Global,
+        device: u16,
+        word: &[u8],
+    ) -> Result<u16, LineError<NetWhy>>
         requires { IsDraft self.now }
         ensures says { Gives result (judging.interface_named (interface_names self.now.declared.interfaces) device word.now) }
         ensures within { IfOk result (λ n. n < length self.now.declared.interfaces) }
@@ -169,7 +173,7 @@ impl Draft {
     }
 
     /// The name of a new area.
-    pub fn new_area(&self, alloc: Global, word: &[u8]) -> Result<Name, LineError>
+    pub fn new_area(&self, alloc: Global, word: &[u8]) -> Result<Name, LineError<NetWhy>>
         requires { IsDraft self.now }
         ensures says { Gives result (judging.new_name (area_names self.now.declared.areas) word.now) }
         ensures formed { IfOk result (λ name. IsTrue (form.is_name name)) }
@@ -179,7 +183,7 @@ impl Draft {
     }
 
     /// The name of a new device.
-    pub fn new_device(&self, alloc: Global, word: &[u8]) -> Result<Name, LineError>
+    pub fn new_device(&self, alloc: Global, word: &[u8]) -> Result<Name, LineError<NetWhy>>
         requires { IsDraft self.now }
         ensures says { Gives result (judging.new_name (device_names self.now.declared.devices) word.now) }
         ensures formed { IfOk result (λ name. IsTrue (form.is_name name)) }
@@ -189,7 +193,12 @@ impl Draft {
     }
 
     /// The name of a new interface of a device.
-    pub fn new_interface(&self, alloc: Global, device: u16, word: &[u8]) -> Result<Name, LineError>
+    pub fn new_interface(
+        &self,
+        alloc: Global,
+        device: u16,
+        word: &[u8],
+    ) -> Result<Name, LineError<NetWhy>>
         requires { IsDraft self.now }
         ensures says { Gives result (judging.new_interface_name (interface_names self.now.declared.interfaces) device word.now) }
         ensures formed { IfOk result (λ name. IsTrue (form.is_interface_name name)) }
@@ -199,7 +208,7 @@ impl Draft {
     }
 
     /// A slot that isn't free yet.
-    pub fn new_slot(&self, slot: u16) -> Result<u16, LineError>
+    pub fn new_slot(&self, slot: u16) -> Result<u16, LineError<NetWhy>>
         requires { IsDraft self.now }
         ensures says { Gives result (judging.new_slot self.now.declared.freed slot) }
         ensures same { IfOk result (λ s. s ≡ slot) }

@@ -3,6 +3,7 @@
 ghost use Rattle.std.specs.Prelude.{◌≡◌, alloc_error};
 ghost use Rattle.np_net_read.specs.declared.fault.NetError.TheVariants.{Memory};
 
+use np_lines::LineFault;
 use std::alloc::{AllocError, AllocFailed};
 use thiserror::Error;
 
@@ -15,7 +16,7 @@ pub enum NetWhy {
     NotBuilt,
     /// Its first word begins no statement.
     UnknownStatement,
-    /// A word is missing, another one stands in a keyword's place, or a word stands behind the statement.
+    /// A word is missing, another one stands in a keyword's place, or a word stands after the statement.
     BadShape,
     /// A name that it declares isn't of a name's form.
     BadName,
@@ -37,14 +38,8 @@ pub enum NetWhy {
     WrongEnd,
 }
 
-/// The first faulty line of a text.
-#[derive(Clone, Copy, Debug, PartialEq, Eq)]
-pub struct NetFault {
-    /// Its number; the first line of a text has number 1.
-    pub line: u64,
-    /// Its first fault in the order of its words.
-    pub why: NetWhy,
-}
+/// The first faulty line of a text, and its first fault in the order of its words.
+pub type NetFault = LineFault<NetWhy>;
 
 /// Why no network was read.
 #[derive(Clone, Copy, Debug, Error)]

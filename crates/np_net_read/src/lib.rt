@@ -9,9 +9,7 @@ mod draft;
 mod endings;
 mod fault;
 mod laws;
-mod line_error;
 mod lines;
-mod names;
 mod reading;
 mod statement;
 mod statements;
@@ -21,6 +19,3 @@ pub use canonical::put_net;
 pub use fault::{NetError, NetFault, NetWhy};
 pub use laws::{canonical_text_is_words, canonical_text_reads_back};
 pub use reading::read_net;
-
-#[cfg(test)]
-mod tests;

@@ -1,18 +1,20 @@
 //! What a line of a network's text declares.
 
-ghost use Rattle.std.specs.Prelude.{◌≡◌, ◌∷◌, ◌++◌, IfOk, IfErr, IfSome, OnOk, Ok};
-ghost use Rattle.np_net_read.specs.Answers.{Gives, IsFaultOf, texts};
-ghost use Rattle.np_net_read.specs.Drafting.{IsDraft, after_line};
-ghost use Rattle.np_net_read.specs.Fitting.{Fits};
+ghost use Rattle.std.specs.Prelude.{◌≡◌, false, IfOk, IfErr, IfSome, OnOk, Ok};
+ghost use Rattle.np_lines.specs.Answers.{Gives, texts};
+ghost use Rattle.np_lines.specs.Declaring.{after_line};
+ghost use Rattle.np_lines.specs.Skipping.{is_skipped};
+ghost use Rattle.np_net_read.specs.Answers.{IsFaultOf};
+ghost use Rattle.np_net_read.specs.Drafting.{IsDraft};
+ghost use Rattle.np_net_read.specs.Fitting.{Fits, added};
 ghost use Rattle.np_net_read.specs.Judging as judging;
 ghost use Rattle.np_net_read.specs.Words.{AreWords};
 
 use crate::draft::Draft;
 use crate::fault::{NetError, NetFault, NetWhy};
-use crate::line_error::LineError;
 use crate::statement::Statement;
 use crate::statements;
-use crate::tokens::{is_comment, is_text, words_in};
+use np_lines::{LineError, is_text, statement_words};
 use np_text::Word;
 use std::alloc::Global;
 
@@ -39,7 +41,7 @@ fn statement(
     draft: &Draft,
     word: &[u8],
     words: &[Word<'_>],
-) -> Result<Statement, LineError>
+) -> Result<Statement, LineError<NetWhy>>
     requires draft { IsDraft draft.now }
     requires words { AreWords (texts words.now) }
     ensures says { Gives result (judging.statement_says draft.now.declared word.now (texts words.now)) }
@@ -66,25 +68,31 @@ fn statement(
     Err(LineError::Faulty(why_no_statement(word)))
 }
 
-/// The statement of a line's words. A line without words and a comment have none.
-fn said(alloc: Global, draft: &Draft, words: &[Word<'_>]) -> Result<Option<Statement>, LineError>
+/// The statement of the words of a line that isn't skipped.
+fn said(
+    alloc: Global,
+    draft: &Draft,
+    words: &[Word<'_>],
+) -> Result<Option<Statement>, LineError<NetWhy>>
     requires draft { IsDraft draft.now }
     requires words { AreWords (texts words.now) }
+    requires judged { is_skipped 35 (texts words.now) ≡ false }
     ensures says { Gives result (judging.words_say draft.now.declared (texts words.now)) }
     ensures fits { IfOk result (λ said. IfSome said (λ s. Fits draft.now.declared s)) }
 {
     let [word, words @ ..] = words else {
         return Ok(None);
     };
-    if is_comment(word.bytes) {
-        return Ok(None);
-    }
     Ok(Some(statement(alloc, draft, word.bytes, words)?))
 }
 
-/// The statement of a line.
+/// The statement of a line. A line without words and a comment have none.
 #[tactic(auto, using(crate::proofs::WordLaws::words_of_text), unfolding(crate::specs::Judging::line_says))]
-fn line_says(alloc: Global, draft: &Draft, line: &[u8]) -> Result<Option<Statement>, LineError>
+fn line_says(
+    alloc: Global,
+    draft: &Draft,
+    line: &[u8],
+) -> Result<Option<Statement>, LineError<NetWhy>>
     requires { IsDraft draft.now }
     ensures says { Gives result (judging.line_says draft.now.declared line.now) }
     ensures fits { IfOk result (λ said. IfSome said (λ s. Fits draft.now.declared s)) }
@@ -92,16 +100,18 @@ fn line_says(alloc: Global, draft: &Draft, line: &[u8]) -> Result<Option<Stateme
     if !is_text(line) {
         return Err(LineError::Faulty(NetWhy::NotText));
     }
-    let words = words_in(alloc, line)?;
-    said(alloc, draft, words.as_slice())
+    match statement_words(alloc, line, b'#')? {
+        Some(words) => said(alloc, draft, words.as_slice()),
+        None => Ok(None),
+    }
 }
 
 /// Reads the line of this number: adds what it declares.
 pub fn read_line(alloc: Global, draft: &mut Draft, number: u64, line: &[u8]) -> Result<(), NetError>
     requires { IsDraft draft.old }
-    ensures after { OnOk result (after_line draft.old.declared number line.now ≡ Ok draft.new.declared) }
+    ensures after { OnOk result (after_line judging.line_says added draft.old.declared number line.now ≡ Ok draft.new.declared) }
     ensures draft { OnOk result (IsDraft draft.new) }
-    ensures fault { IfErr result (λ error. IsFaultOf (after_line draft.old.declared number line.now) error) }
+    ensures fault { IfErr result (λ error. IsFaultOf (after_line judging.line_says added draft.old.declared number line.now) error) }
 {
     match line_says(alloc, draft, line) {
         Ok(Some(statement)) => draft.add(alloc, statement)?,

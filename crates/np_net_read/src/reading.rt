@@ -80,7 +80,7 @@ fn network(alloc: Global, draft: Draft) -> Result<Network, AllocError>
 /// The network that a text declares.
 ///
 /// The first faulty line is an error, with its number and its first fault in the order of its words.
-#[tactic(auto, using(crate::proofs::LineReading::net_of_numbered))]
+#[tactic(auto, using(crate::proofs::LineReading::net_begins))]
 pub fn read_net(alloc: Global, bytes: &[u8]) -> Result<Network, NetError>
     ensures net { IfOk result (λ net. net_of bytes.now ≡ Ok net) }
     ensures fault { IfErr result (λ error. IsFaultOf (net_of bytes.now) error) }

@@ -1,64 +1,25 @@
-//! The words of a line, and what single words say.
+//! What single words say.
 
 ghost use Rattle.std.specs.Prelude.{◌≡◌, ◌∷◌, ◌*◌, ◌+◌, ◌<◌, ◌≤◌, ◌==◌, false, map, IfOk, IfErr, IfSome, IsTrue, OnOk, Ok, length, nat_lt};
 ghost use Rattle.std.specs.List.{list_all, list_any};
 ghost use Rattle.std.specs.Str.{bytes_eq};
-ghost use Rattle.np_text.specs.Words.{words_of};
 ghost use Rattle.np_pred.specs.Patterns.{are_prefixes};
 ghost use Rattle.np_net.specs.Names as form;
 ghost use Rattle.np_net.specs.Distinct.{same_place};
-ghost use Rattle.np_net_read.specs.Answers.{Gives, StopsAs, texts};
+ghost use Rattle.np_lines.specs.Answers.{Gives};
 ghost use Rattle.np_net_read.specs.Judging as judging;
-ghost use Rattle.np_net_read.specs.Why.{word_in};
 
 use crate::fault::NetWhy;
-use crate::line_error::LineError;
-use crate::names::{Names, Places};
-use np_net::{is_interface_name, is_name};
+use np_lines::LineError;
+use np_net::{DEPTH_LIMIT, Names, Places, is_interface_name, is_name};
 use np_pred::addresses;
 use np_space::Ternary;
-use np_text::{Name, Word, number, words};
+use np_text::{Name, number};
 use sqlite_items::Items;
-use std::alloc::{AllocError, Global};
-
-fn is_text_byte(byte: u8) -> bool
-    ensures { result ≡ judging.is_text_byte byte }
-{
-    (32 <= byte && byte <= 126) || byte == b'\t' || byte == b'\r'
-}
-
-/// Whether each byte of a line may stand in a network's text.
-pub fn is_text(line: &[u8]) -> bool
-    ensures { result ≡ list_all judging.is_text_byte line.now }
-{
-    line.iter().all(|byte| is_text_byte(*byte))
-}
-
-/// The words of a line.
-pub fn words_in(alloc: Global, line: &[u8]) -> Result<Vec<Word<'_>>, AllocError>
-    ensures { IfOk result (λ list. texts list.items ≡ words_of line.now) }
-{
-    let mut list = Vec::new(alloc);
-    for word in words(line) {
-        list.push(word)?;
-    }
-    Ok(list)
-}
-
-/// The first word, and the words behind it.
-pub fn next_word<'a>(words: &'a [Word<'a>]) -> Result<(&'a [u8], &'a [Word<'a>]), LineError>
-    ensures ok { IfOk result (λ next. word_in (texts words.now) ≡ Ok (next.0.now, texts next.1.now)) }
-    ensures split { IfOk result (λ next. texts words.now ≡ next.0.now ∷ texts next.1.now) }
-    ensures err { IfErr result (λ e. StopsAs e (word_in (texts words.now))) }
-{
-    let [first, rest @ ..] = words else {
-        return Err(LineError::Faulty(NetWhy::BadShape));
-    };
-    Ok((first.bytes, rest))
-}
+use std::alloc::Global;
 
 /// A name that is new among these.
-pub fn new_name(alloc: Global, names: &Names, word: &[u8]) -> Result<Name, LineError>
+pub fn new_name(alloc: Global, names: &Names, word: &[u8]) -> Result<Name, LineError<NetWhy>>
     ensures says { Gives result (judging.new_name names.now word.now) }
     ensures formed { IfOk result (λ name. IsTrue (form.is_name name)) }
     ensures new { IfOk result (λ name. list_any (bytes_eq name) names.now ≡ false) }
@@ -78,7 +39,7 @@ pub fn new_interface_name(
     places: &Places,
     device: u16,
     word: &[u8],
-) -> Result<Name, LineError>
+) -> Result<Name, LineError<NetWhy>>
     ensures says { Gives result (judging.new_interface_name places.now device word.now) }
     ensures formed { IfOk result (λ name. IsTrue (form.is_interface_name name)) }
     ensures new { IfOk result (λ name. list_any (same_place (device, name)) places.now ≡ false) }
@@ -93,7 +54,7 @@ pub fn new_interface_name(
 }
 
 /// The number of a name among these, which are few enough for it.
-pub fn named(alloc: Global, names: &Names, word: &[u8]) -> Result<u16, LineError>
+pub fn named(alloc: Global, names: &Names, word: &[u8]) -> Result<u16, LineError<NetWhy>>
     requires few { length names.now ≤ 65535 }
     ensures says { Gives result (judging.named names.now word.now) }
     ensures within { IfOk result (λ n. n < length names.now) }
@@ -110,7 +71,7 @@ pub fn interface_named(
     places: &Places,
     device: u16,
     word: &[u8],
-) -> Result<u16, LineError>
+) -> Result<u16, LineError<NetWhy>>
     requires few { length places.now ≤ 65535 }
     ensures says { Gives result (judging.interface_named places.now device word.now) }
     ensures within { IfOk result (λ n. n < length places.now) }
@@ -122,7 +83,7 @@ pub fn interface_named(
 }
 
 /// The prefixes of an area.
-pub fn sources(alloc: Global, word: &[u8]) -> Result<Items<Ternary>, LineError>
+pub fn sources(alloc: Global, word: &[u8]) -> Result<Items<Ternary>, LineError<NetWhy>>
     ensures says { Gives result (judging.sources_of word.now) }
     ensures prefixes { IfOk result (λ patterns. IsTrue (are_prefixes patterns)) }
 {
@@ -133,19 +94,19 @@ pub fn sources(alloc: Global, word: &[u8]) -> Result<Items<Ternary>, LineError>
 }
 
 /// A depth of 1 to 16.
-pub fn depth(word: &[u8]) -> Result<u8, LineError>
+pub fn depth(word: &[u8]) -> Result<u8, LineError<NetWhy>>
     ensures says { Gives result (judging.depth_of word.now) }
     ensures shallow { IfOk result (λ depth. 1 ≤ depth) }
     ensures deep { IfOk result (λ depth. depth ≤ 16) }
 {
-    match number(word, 16) {
+    match number(word, u64::from(DEPTH_LIMIT)) {
         Some(value) if value > 0 => Ok(value as u8),
         _ => Err(LineError::Faulty(NetWhy::BadNumber)),
     }
 }
 
 /// The slot of an interface in a way, `in` or `out`.
-pub fn slot(interface: u16, word: &[u8]) -> Result<u16, LineError>
+pub fn slot(interface: u16, word: &[u8]) -> Result<u16, LineError<NetWhy>>
     requires few { interface < 1024 }
     ensures says { Gives result (judging.slot_of interface word.now) }
     ensures within { IfOk result (λ slot. slot < 2 * interface + 2) }
@@ -160,7 +121,7 @@ pub fn slot(interface: u16, word: &[u8]) -> Result<u16, LineError>
 }
 
 /// Whether a goal says `only`, and not `never`.
-pub fn is_only(word: &[u8]) -> Result<bool, LineError>
+pub fn is_only(word: &[u8]) -> Result<bool, LineError<NetWhy>>
     ensures { Gives result (judging.only_of word.now) }
 {
     if word == b"never".as_slice() {
@@ -170,14 +131,4 @@ pub fn is_only(word: &[u8]) -> Result<bool, LineError>
         return Ok(true);
     }
     Err(LineError::Faulty(NetWhy::BadShape))
-}
-
-/// A comment's first word begins with `#`.
-pub fn is_comment(word: &[u8]) -> bool
-    ensures { result ≡ judging.is_comment word.now }
-{
-    match word {
-        [first, ..] => *first == b'#',
-        [] => false,
-    }
 }

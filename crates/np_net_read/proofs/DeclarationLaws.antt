@@ -3,7 +3,6 @@ use Rattle.std.proofs.Common.{◌≡◌, ℕ, List, [], ◌∷◌, ◌++◌, Opt
 use Rattle.std.proofs.lemmas.List.Elements.{filter_map-append}
 use Rattle.std.specs.List.{filter_map}
 use Rattle.np_lines.specs.Declaring.{GrowsBy}
-use Rattle.np_net_read.specs.declared.statement.Statement.{Statement}
 use Rattle.np_net_read.specs.declared.statement.Statement.TheVariants as statement
 use Rattle.np_net_read.specs.Declaring.{declared_by, depth_in, area_in, device_in, interface_in, slot_in, goal_in, last_or}
 use Rattle.np_net_read.specs.Fitting.{added}

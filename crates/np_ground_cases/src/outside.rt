@@ -244,7 +244,9 @@ fn real_files_are_read_and_written(rt: HostRuntime) -> Result<(), Fail> {
     let mut sink = StdSink::new(&rt);
     write_all(&mut sink, &read)?;
     assert_eq!(rt; sink.write(b""), Ok(0));
-    Ok(())
+    fs::remove_file(&rt, "a.txt")?;
+    fs::remove_file(&rt, " two words ")?;
+    Ok(fs::remove_dir(&rt, "folder")?)
 }
 
 #[test]

@@ -38,10 +38,10 @@ entry_line declared list line e a b n words written section next room =
     by : (permit : Bool) → unnumbered declared list Extended permit (entry_words e a b) ≡ Ok (record { list = list; number = n; entry = e })
         → words_say 33 (line_with declared) (action_word permit ∷ entry_words e a b) ≡ Ok (Some said)
     by true unnumbered_is =
-        let P : Section → Type 0 = λ s. (if begins_other s (action_word true) then Ok (Some statement.Other) else other_line declared s (action_word true) (action_word true ∷ entry_words e a b)) ≡ Ok (Some said) in
+        let P : Section → Type 0 = λ s. other_line declared s (action_word true) (action_word true ∷ entry_words e a b) ≡ Ok (Some said) in
         let inner : P (sections.List list Extended) = ap (λ judged. (judged >>= λ entry. Ok (Some entry)) >>= λ entry. Ok (section_statement entry)) unnumbered_is in
         subst P (sym section) inner
     by false unnumbered_is =
-        let P : Section → Type 0 = λ s. (if begins_other s (action_word false) then Ok (Some statement.Other) else other_line declared s (action_word false) (action_word false ∷ entry_words e a b)) ≡ Ok (Some said) in
+        let P : Section → Type 0 = λ s. other_line declared s (action_word false) (action_word false ∷ entry_words e a b) ≡ Ok (Some said) in
         let inner : P (sections.List list Extended) = ap (λ judged. (judged >>= λ entry. Ok (Some entry)) >>= λ entry. Ok (section_statement entry)) unnumbered_is in
         subst P (sym section) inner

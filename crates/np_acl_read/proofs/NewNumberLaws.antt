@@ -260,10 +260,7 @@ said_or_other_new declared None word words holds = other_line_new declared decla
 said_or_other_new declared (Some judged) word words holds = after (IsNewIn declared) (IfNewIn declared) judged _ holds (λ s new. new)
 
 line_with_new : (declared : Declared) (word : List ℕ) (words : List (List ℕ)) → Holds (IfNewIn declared) (line_with declared word words)
-line_with_new declared word words = by (begins_other declared.section word) where
-  by : (b : Bool) → Holds (IfNewIn declared) (if b then Ok (Some statement.Other) else said_by declared (word ∷ words))
-  by true = tt
-  by false = said_or_other_new declared (keyword_says declared word words) word (word ∷ words) (keyword_new declared word words)
+line_with_new declared word words = said_or_other_new declared (keyword_says declared word words) word (word ∷ words) (keyword_new declared word words)
 
 words_new : (declared : Declared) (words : List (List ℕ)) → Holds (IfNewIn declared) (words_say 33 (line_with declared) words)
 words_new declared [] = tt

@@ -1,6 +1,6 @@
 -- A line of an entry in its canonical words, in the section of its list.
-use Rattle.std.proofs.Common.{◌≡◌, ℕ, ◌<◌, Bool, true, false, List, ◌∷◌, nat_lt, Some, None, refl, sym, ap, subst, ◌∙◌}
-use Rattle.std.specs.Prelude.{Ok, if◌then◌else◌}
+use Rattle.std.proofs.Common.{◌≡◌, ℕ, ◌<◌, Bool, true, false, List, ◌∷◌, Some, refl, sym, ap, subst, ◌∙◌}
+use Rattle.std.specs.Prelude.{Ok}
 use Rattle.std.proofs.lemmas.Bool.{lt-ltb}
 use Rattle.np_text.specs.Words.{words_of}
 use Rattle.np_lines.specs.Judging.{◌>>=◌}
@@ -9,16 +9,14 @@ use Rattle.np_space.specs.declared.spans.Span.{Span}
 use Rattle.np_acl.specs.declared.entries.Entry.{Entry}
 use Rattle.np_acl.specs.declared.kinds.ListKind.TheVariants.{Extended}
 use Rattle.np_entry_read.specs.Canonical.{IsWritten, entry_words}
-use Rattle.np_entry_read.specs.Entries.{entry_of}
 use Rattle.np_entry_read.proofs.CanonicalLaws.{entry_reads_back}
 use Rattle.np_acl_read.specs.declared.declared.Declared.{Declared}
 use Rattle.np_acl_read.specs.declared.declared.Section.{Section}
 use Rattle.np_acl_read.specs.declared.declared.Section.TheVariants as sections
-use Rattle.np_acl_read.specs.declared.statement.NumberedEntry.{NumberedEntry}
 use Rattle.np_acl_read.specs.declared.statement.Statement.{Statement}
 use Rattle.np_acl_read.specs.declared.statement.Statement.TheVariants as statement
 use Rattle.np_acl_read.specs.Adding.{entry_limit}
-use Rattle.np_acl_read.specs.Judging.{begins_other, entry_or_remark, line_says, line_with, next_number, numbers_in, other_line, section_entry, section_statement, unnumbered}
+use Rattle.np_acl_read.specs.Judging.{entry_or_remark, line_says, line_with, next_number, numbers_in, other_line, section_entry, section_statement, unnumbered}
 use Rattle.np_acl_read.specs.Words.{action_word}
 
 -- an entry in its canonical words gets the next number of its list

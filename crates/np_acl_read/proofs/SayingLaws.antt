@@ -1,12 +1,12 @@
 -- What a line says, by its first word.
-use Rattle.std.proofs.Common.{◌≡◌, ℕ, Bool, true, false, List, [], ◌∷◌, drop, Option, Some, None, refl, ap, sym, ◌∙◌}
+use Rattle.std.proofs.Common.{◌≡◌, ℕ, Bool, true, false, List, ◌∷◌, drop, Option, Some, None, refl, ap, sym, ◌∙◌}
 use Rattle.std.specs.Prelude.{◌&&◌, ◌||◌, not, Ok, Err, codes, if◌then◌else◌}
 use Rattle.std.specs.Str.{bytes_eq}
 use Rattle.np_text.specs.Words.{words_of}
 use Rattle.np_lines.specs.Skipping.{begins_with, is_skipped}
 use Rattle.np_lines.proofs.SkippedLines.{skipped_say_nothing, unmarked_say}
 use Rattle.np_lines.specs.Answers.{StopsAs}
-use Rattle.np_lines.specs.Judging.{Judged, ◌>>=◌}
+use Rattle.np_lines.specs.Judging.{Judged}
 use Rattle.np_lines.specs.declared.line_error.LineError.{LineError}
 use Rattle.np_lines.specs.declared.line_error.LineError.TheVariants as stop
 use Rattle.np_entry_read.specs.declared.fault.ConfigWhy.{ConfigWhy}

@@ -1,6 +1,6 @@
 -- No two entries of a list in a text have the same number.
 use Rattle.std.proofs.Common.{◌≡◌, ℕ, ◌+◌, ◌<◌, ◌≤◌, Bool, true, false, nat_eq, nat_le, nat_lt, max, List, [], ◌∷◌, ◌++◌, map, unwrap_or, Option, Some, None, refl, sym, ap, subst, ◌∙◌, arith}
-use Rattle.std.specs.Prelude.{◌&&◌, ◌||◌, not, ◌==◌, Ok, Err, fold, is_some, if◌then◌else◌, codes}
+use Rattle.std.specs.Prelude.{◌||◌, ◌==◌, Ok, Err, fold, is_some, if◌then◌else◌, codes}
 use Rattle.std.specs.Fmt.{decimal}
 use Rattle.std.specs.List.{IsDistinct, filter_map, list_any}
 use Rattle.std.specs.Map.{keys_of, lookup}
@@ -34,7 +34,7 @@ use Rattle.np_acl_read.specs.declared.statement.Statement.TheVariants as stateme
 use Rattle.np_acl_read.specs.Adding.{entry_limit}
 use Rattle.np_acl_read.specs.Counting.{last_with}
 use Rattle.np_acl_read.specs.Declaring.{declared_by, declared_in, entries_of, entry_in, entry_of_list, lists_of, names_of}
-use Rattle.np_acl_read.specs.Judging.{access_list, acted, begins_list_line, begins_other, entry_or_remark, group_at, group_line, interface_line, ip_line, is_negated, keyword_says, line_of_list, line_says, line_with, list_entry, list_line, list_number, list_statement, next_number, no_line, number_limit, numbered, numbers_in, open_list, other_line, said_by, said_or_other, section_entry, section_line, section_statement, sequence_number, unnumbered, unused}
+use Rattle.np_acl_read.specs.Judging.{access_list, acted, begins_list_line, entry_or_remark, group_at, group_line, interface_line, ip_line, is_negated, keyword_says, line_of_list, line_says, line_with, list_entry, list_line, list_number, list_statement, next_number, no_line, number_limit, numbered, numbers_in, open_list, other_line, said_or_other, section_entry, section_line, section_statement, sequence_number, unnumbered, unused}
 use Rattle.np_acl_read.specs.Words.{action_of, way_of}
 use Rattle.np_acl_read.proofs.CountingLaws.{entry_of_number}
 use Rattle.np_acl_read.proofs.DeclarationLaws.{found_at, no_entries, none_more, one_more}
@@ -260,10 +260,7 @@ said_or_other_new declared None word words holds = other_line_new declared decla
 said_or_other_new declared (Some judged) word words holds = after (IsNewIn declared) (IfNewIn declared) judged _ holds (λ s new. new)
 
 line_with_new : (declared : Declared) (word : List ℕ) (words : List (List ℕ)) → Holds (IfNewIn declared) (line_with declared word words)
-line_with_new declared word words = by (begins_other declared.section word) where
-  by : (b : Bool) → Holds (IfNewIn declared) (if b then Ok (Some statement.Other) else said_by declared (word ∷ words))
-  by true = tt
-  by false = said_or_other_new declared (keyword_says declared word words) word (word ∷ words) (keyword_new declared word words)
+line_with_new declared word words = said_or_other_new declared (keyword_says declared word words) word (word ∷ words) (keyword_new declared word words)
 
 words_new : (declared : Declared) (words : List (List ℕ)) → Holds (IfNewIn declared) (words_say 33 (line_with declared) words)
 words_new declared [] = tt

@@ -6,6 +6,7 @@ use Rattle.std.specs.Str.{bytes_eq}
 use Rattle.indexmap.specs.IndexMap.{insert_entry as put}
 use Rattle.np_acl.specs.declared.entries.Entry.{Entry}
 use Rattle.np_acl_read.specs.declared.declared.Declared.{Declared}
+use Rattle.np_acl_read.specs.declared.limits.TheConstants.{ENTRY_LIMIT}
 use Rattle.np_acl_read.specs.declared.statement.NumberedEntry.{NumberedEntry}
 use Rattle.np_acl_read.specs.declared.statement.Statement.{Statement}
 use Rattle.np_acl_read.specs.declared.statement.Statement.TheVariants as statement
@@ -49,7 +50,7 @@ added declared said = record (told declared said) { section = section_after decl
 
 -- the entries of one configuration, at most
 abbrev pub entry_limit : ℕ
-entry_limit = 20000
+entry_limit = ENTRY_LIMIT
 
 -- a statement that may stand after what is declared: there is room for its entry
 abbrev pub Fits : Declared → Statement → Type 0

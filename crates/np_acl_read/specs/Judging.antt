@@ -246,9 +246,7 @@ begins_other section word = not (is_keyword word) && not (in_list section && beg
 
 -- what a line says, by its first word and the others
 abbrev pub line_with : Declared → List ℕ → List (List ℕ) → Judged ConfigWhy (Option Statement)
-line_with declared word words =
-    if begins_other declared.section word then Ok (Some statement.Other)
-    else said_by declared (word ∷ words)
+line_with declared word words = said_by declared (word ∷ words)
 
 -- what a line declares after lines that declare this; a line without words and a comment, which begins with `!`, declare nothing, and leave the section as it is
 unfoldable pub line_says : Declared → List ℕ → Judged ConfigWhy (Option Statement)

@@ -17,7 +17,8 @@ use np_text::Name;
 use std::alloc::{AllocError, Global};
 use std::marker::Model;
 
-/// Access lists by their names, in the order in which the names first appear in the text.
+/// Access lists by their names, each name once, in the order in which the names first appear in the
+/// text.
 #[derive(Drop)]
 pub struct Lists {
     lists: IndexMap<Name, List>,
@@ -26,10 +27,15 @@ pub struct Lists {
 impl Model for Lists {
     ghost use Rattle.std.specs.Prelude.{ℕ, List as ListOf};
     ghost use Rattle.np_acl.specs.declared.entries.Entry.{Entry};
+    ghost use Rattle.std.specs.List.{IsDistinct};
+    ghost use Rattle.std.specs.Map.{keys_of};
+    ghost use Rattle.std.specs.Str.{bytes_eq};
 
     ghost Value = { ListOf (ListOf ℕ × ListOf Entry) };
 
     ghost view = { λ lists. lists.lists.entries };
+
+    ghost invariant = { λ lists. IsDistinct bytes_eq (keys_of lists.lists.entries) };
 }
 
 impl Lists {

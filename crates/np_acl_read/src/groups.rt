@@ -1,6 +1,6 @@
 //! Where access lists are applied.
 
-ghost use Rattle.std.specs.Prelude.{◌≡◌, length, OnOk};
+ghost use Rattle.std.specs.Prelude.{◌≡◌, length, OnOk, OnErr};
 ghost use Rattle.std.specs.List.{IsDistinct};
 ghost use Rattle.std.specs.Map.{keys_of, lookup};
 ghost use Rattle.std.specs.Option.{option_copied};
@@ -23,10 +23,15 @@ pub struct Groups {
 
 impl Model for Groups {
     ghost use Rattle.np_acl_read.specs.Applied.{Applied};
+    ghost use Rattle.std.specs.List.{IsDistinct};
+    ghost use Rattle.std.specs.Map.{keys_of};
+    ghost use Rattle.std.specs.Str.{bytes_eq};
 
     ghost Value = { Applied };
 
     ghost view = { λ groups. record { inward = groups.inward.entries; outward = groups.outward.entries } };
+
+    ghost invariant = { λ groups. IsDistinct bytes_eq (keys_of groups.inward.entries) × IsDistinct bytes_eq (keys_of groups.outward.entries) };
 }
 
 impl Groups {
@@ -62,9 +67,11 @@ impl Groups {
         }
     }
 
-    /// Applies a list, in the place of one that is applied there before.
+    /// Applies a list, in the place of one that is applied there before. Where memory runs out, the
+    /// groups stay as they were.
     pub fn apply(&mut self, interface: Name, way: Way, list: Name) -> Result<(), AllocError>
-        ensures { OnOk result (self.new ≡ with_group self.old way interface list) }
+        ensures err { OnErr result (self.new ≡ self.old) }
+        ensures ok { OnOk result (self.new ≡ with_group self.old way interface list) }
     {
         match way {
             Way::Inward => {

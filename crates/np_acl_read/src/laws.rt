@@ -1,7 +1,7 @@
 //! Laws of the definitions that the contracts of this crate cite. A function here does nothing:
 //! its contract is the law.
 
-ghost use Rattle.std.specs.Prelude.{◌≡◌, ◌<◌, ◌∷◌, ℕ, Bool, List, [], map, nat_eq, Ok};
+ghost use Rattle.std.specs.Prelude.{◌≡◌, ◌<◌, ◌∷◌, ℕ, Bool, List, [], map, Option, nat_eq, Ok};
 ghost use Rattle.std.specs.List.{IsDistinct};
 ghost use Rattle.std.specs.List.Sorted.{IsStrictlySortedBy};
 ghost use Rattle.std.specs.Map.{keys_of, lookup};
@@ -9,7 +9,7 @@ ghost use Rattle.std.specs.Ordering.{nat_cmp};
 ghost use Rattle.std.specs.Str.{bytes_eq};
 ghost use Rattle.np_text.specs.Joined.{AreLinesOfWords, joined_line, joined_text};
 ghost use Rattle.np_text.specs.Lines.{lines_of};
-ghost use Rattle.np_lines.specs.Reading.{EachSays, text_says};
+ghost use Rattle.np_lines.specs.Reading.{EachSays, statements_said, text_says};
 ghost use Rattle.np_text.specs.Words.{words_of};
 ghost use Rattle.np_space.specs.declared.spans.Span.{Span};
 ghost use Rattle.np_acl.specs.declared.entries.Entry.{Entry};
@@ -41,13 +41,13 @@ pub fn the_last_group_counts()
     ensures { (statements : List Statement) (way : Way) (interface : List ℕ) → lookup (bytes_eq interface) (applied_by statements way) ≡ last_with (bytes_eq interface) (groups_in statements way) }
 {}
 
-/// A text whose lines each say a statement, against what those before it declare, is the
-/// configuration that these statements declare; so is the text of lines of words, the words of each
-/// joined by one space.
+/// A text whose lines each say a statement, against what those before it declare, or nothing as a
+/// comment does, is the configuration that these statements declare; so is the text of lines of
+/// words, the words of each joined by one space.
 #[tactic(auto, using(crate::proofs::LineReading::lines_read, crate::proofs::LineReading::joined_lines_read))]
 pub fn lines_declare_their_statements()
-    ensures text { (text : List ℕ) (statements : List Statement) → EachSays (λ before. line_says (declared_by before)) [] (lines_of text) statements → config_of text ≡ Ok (config_with (declared_by statements)) }
-    ensures joined { (lines : List (Bool × List (List ℕ))) (statements : List Statement) → AreLinesOfWords lines → EachSays (λ before. line_says (declared_by before)) [] (map (λ line. joined_line line.0 line.1) lines) statements → config_of (joined_text lines) ≡ Ok (config_with (declared_by statements)) }
+    ensures text { (text : List ℕ) (saids : List (Option Statement)) → EachSays (λ before. line_says (declared_by before)) [] (lines_of text) saids → config_of text ≡ Ok (config_with (declared_by (statements_said saids))) }
+    ensures joined { (lines : List (Bool × List (List ℕ))) (saids : List (Option Statement)) → AreLinesOfWords lines → EachSays (λ before. line_says (declared_by before)) [] (map (λ line. joined_line line.0 line.1) lines) saids → config_of (joined_text lines) ≡ Ok (config_with (declared_by (statements_said saids))) }
 {}
 
 /// In the section of an extended list a line of `permit` or `deny` and the canonical words of an

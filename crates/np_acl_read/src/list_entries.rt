@@ -8,6 +8,7 @@ ghost use Rattle.np_lines.specs.Answers.{Gives, texts};
 ghost use Rattle.np_acl_read.specs.Judging as judging;
 
 use crate::declared::Declared;
+use crate::limits::ENTRY_LIMIT;
 use crate::numbered::NumberedLists;
 use crate::statement::NumberedEntry;
 use crate::words::action;
@@ -16,9 +17,6 @@ use np_entry_read::{ConfigWhy, entry};
 use np_lines::{LineError, within};
 use np_text::{Name, Word, number};
 use std::alloc::Global;
-
-/// The entries of one configuration, at most.
-const ENTRY_LIMIT: usize = 20_000;
 
 /// The greatest sequence number.
 const NUMBER_LIMIT: u32 = 2_147_483_647;

@@ -26,7 +26,11 @@ fn config(alloc: Global, declared: Declared) -> Result<Config, AllocError>
 /// The configuration that a text declares. Lines that are none of lists and groups are skipped, in
 /// any bytes.
 ///
-/// The first faulty line is an error, with its number and its first fault in the order of its words.
+/// The lines are those of a running configuration of Cisco IOS (Security Command Reference,
+/// `access-list`, `ip access-list`, `ip access-group`). The first faulty line is an error, with its
+/// number and its first fault in the order of its words: beside the faults of an entry
+/// `DuplicateSequence`, `Negated` and `TooManyEntries`. Sequence numbers are 1 to 2,147,483,647, and
+/// all lists together have `ENTRY_LIMIT` entries at most. Want of memory may come at any time.
 #[tactic(auto, using(crate::proofs::LineReading::config_of_numbered))]
 pub fn read_config(alloc: Global, bytes: &[u8]) -> Result<Config, ConfigError>
     ensures config { IfOk result (λ config. config_of bytes.now ≡ Ok config) }

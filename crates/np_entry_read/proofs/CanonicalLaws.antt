@@ -1,17 +1,17 @@
 -- An entry in its canonical words reads back.
-use Rattle.std.proofs.Common.{◌≡◌, ℕ, ◌+◌, ◌<◌, ◌≤◌, ◌^◌, Bool, true, false, List, [], ◌∷◌, ◌++◌, nat_le, Option, Some, None, refl, sym, ap, ◌∙◌, arith}
+use Rattle.std.proofs.Common.{◌≡◌, ℕ, ◌≤◌, Bool, true, false, List, [], ◌∷◌, ◌++◌, Some, None, refl, sym, ap, ◌∙◌, arith}
 use Rattle.std.specs.Prelude.{◌&&◌, ◌||◌, not, ◌==◌, Ok, codes, if◌then◌else◌, unwrap_or}
 use Rattle.std.specs.Fmt.{decimal}
 use Rattle.std.specs.Str.{bytes_eq}
 use Rattle.std.proofs.lemmas.Bool.{and_parts, eqb-true}
 use Rattle.std.proofs.lemmas.Bool.Decides.{nat_tests}
 use Rattle.np_text.specs.Addresses.{dotted}
-use Rattle.np_text.specs.Numbers.{is_numeral, number_of}
+use Rattle.np_text.specs.Numbers.{number_of}
 use Rattle.np_text.proofs.NumberLaws.{number_of-decimal}
 use Rattle.np_space.specs.Span.{span_from}
 use Rattle.np_space.specs.declared.patterns.Ternary.{Ternary}
 use Rattle.np_space.specs.declared.spans.Span.{Span}
-use Rattle.np_acl.specs.Spans.{any_dscp, any_flag, any_number}
+use Rattle.np_acl.specs.Spans.{any_dscp, any_number}
 use Rattle.np_acl.specs.Tables as tables
 use Rattle.np_acl.specs.Tables.{tcp_table, udp_table, icmp_table, dscp_table}
 use Rattle.np_acl.specs.declared.entries.Entry.{Entry}
@@ -22,10 +22,10 @@ use Rattle.np_entry_read.specs.declared.options.Asked.{Asked}
 use Rattle.np_entry_read.specs.declared.options.Mark.TheVariants as marks
 use Rattle.np_entry_read.specs.declared.options.OptionKind.{OptionKind}
 use Rattle.np_entry_read.specs.declared.options.OptionKind.TheVariants as options
-use Rattle.np_entry_read.specs.Canonical.{IsWritten, address_words, dscp_words, entry_words, established_words, has_numbers, is_all, is_one, number_words, octet_words, port_words, protocol_word, source_words}
+use Rattle.np_entry_read.specs.Canonical.{IsWritten, address_words, dscp_words, entry_words, established_words, has_numbers, is_all, is_one, number_words, octet_words, protocol_word, source_words}
 use Rattle.np_entry_read.specs.Entries.{code_in, entry_of, extended_entry, is_protocol, message_tests, numbers_after, may_be_established, may_be_marked, options_for, options_from, options_of, port_names, port_tests}
 use Rattle.np_entry_read.specs.Spans.{flag_test}
-use Rattle.np_entry_read.specs.Words.{is_unsupported, unsupported_words}
+use Rattle.np_entry_read.specs.Words.{unsupported_words}
 use Rattle.np_entry_read.proofs.CanonicalWords.{begins_digit, decimal_digit, dotted_digit, dotted_no_port, numeral_decimal, other_word, supported_digit, word_read}
 use Rattle.np_entry_read.proofs.CanonicalParts.{EndPorts, addresses_read, all_is, one_is, one_small, ports_read, protocol_read, protocol_supported, span_of}
 

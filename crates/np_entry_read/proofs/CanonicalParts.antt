@@ -1,31 +1,29 @@
 -- The parts of canonical entries read back.
-use Rattle.std.proofs.Common.{◌≡◌, ℕ, ◌+◌, ◌-◌, ◌<◌, ◌≤◌, ◌^◌, ◌%◌, Bool, true, false, List, [], ◌∷◌, ◌++◌, length, bit_and, nat_le, nat_eq, Option, Some, None, refl, sym, ap, subst, ◌∙◌, arith}
-use Rattle.std.specs.Prelude.{◌&&◌, ◌||◌, not, ◌==◌, Ok, Err, is_some, codes, if◌then◌else◌}
+use Rattle.std.proofs.Common.{◌≡◌, ℕ, ◌-◌, ◌<◌, ◌≤◌, Bool, true, false, List, [], ◌∷◌, ◌++◌, bit_and, nat_le, Some, refl, sym, ap, ◌∙◌, arith}
+use Rattle.std.specs.Prelude.{◌&&◌, ◌||◌, not, ◌==◌, Ok, codes, if◌then◌else◌}
 use Rattle.std.specs.Fmt.{decimal}
 use Rattle.std.specs.Str.{bytes_eq}
 use Rattle.std.proofs.lemmas.Bool.{and_parts, eqb-true, leb-true, le-leb}
-use Rattle.std.proofs.lemmas.Bool.Decides.{nat_tests}
 use Rattle.std.specs.Int.Bits.{and_lt}
-use Rattle.np_text.specs.Addresses.{address_of, dotted}
-use Rattle.np_text.specs.Numbers.{is_numeral, number_of}
+use Rattle.np_text.specs.Addresses.{dotted}
+use Rattle.np_text.specs.Numbers.{number_of}
 use Rattle.np_text.proofs.AddressLaws.{address_of-dotted}
 use Rattle.np_text.proofs.NumberLaws.{number_of-decimal}
 use Rattle.np_space.specs.Bit.{has_bit}
-use Rattle.np_space.specs.Patterns.{any_address, host, pattern}
+use Rattle.np_space.specs.Patterns.{any_address, pattern}
 use Rattle.np_space.specs.Span.{span_from}
 use Rattle.np_space.specs.declared.patterns.Ternary.{Ternary}
 use Rattle.np_space.specs.declared.spans.Span.{Span}
 use Rattle.np_space.proofs.BitLemmas.{bit-and, bit-not, bit-zero, same_from_has_bit}
 use Rattle.np_space.proofs.MadeLemmas.{same_ternary, span_from-own, value-pattern, wild-pattern}
 use Rattle.np_space.proofs.PatternLemmas.{wild_clear}
-use Rattle.np_acl.specs.Spans.{any_dscp, any_number}
+use Rattle.np_acl.specs.Spans.{any_number}
 use Rattle.np_acl.specs.Tables as tables
 use Rattle.np_acl.specs.Tables.{protocol_table, tcp_table, udp_table, icmp_table, dscp_table}
 use Rattle.np_acl.specs.declared.kinds.PortNames.{PortNames}
 use Rattle.np_acl.specs.declared.kinds.PortNames.TheVariants.{Tcp, Udp}
 use Rattle.np_entry_read.specs.Canonical.{address_words, is_all, is_one, port_words, protocol_word}
-use Rattle.np_entry_read.specs.Entries.{addresses_in, is_port, is_protocol, more_ports, port_in, port_of, port_tests, ports_in, protocol_of, range_in, tests_in}
-use Rattle.np_entry_read.specs.Spans.{only}
+use Rattle.np_entry_read.specs.Entries.{addresses_in, more_ports, port_in, port_tests, ports_in, range_in, tests_in}
 use Rattle.np_entry_read.specs.Words.{entry_word, is_unsupported, unsupported_words}
 use Rattle.np_entry_read.proofs.CanonicalWords.{begins_digit, decimal_digit, dotted_digit, other_word, supported_digit, word_read}
 

@@ -1,17 +1,16 @@
 -- The words that canonical entries are made of, one by one.
-use Rattle.std.proofs.Common.{◌≡◌, ℕ, ◌<◌, ◌≤◌, ◌^◌, ◌/◌, ◌%◌, Bool, true, false, List, [], ◌∷◌, ◌++◌, length, Option, Some, None, refl, sym, ap, ◌∙◌, arith}
-use Rattle.std.specs.Prelude.{◌&&◌, ◌||◌, not, ◌==◌, Ok, is_some, codes}
+use Rattle.std.proofs.Common.{◌≡◌, ℕ, ◌<◌, ◌^◌, ◌/◌, ◌%◌, Bool, true, false, List, [], ◌∷◌, ◌++◌, length, None, refl, arith}
+use Rattle.std.specs.Prelude.{◌&&◌, not, Ok}
 use Rattle.std.specs.Char.{is_ascii_digit}
 use Rattle.std.specs.Fmt.{decimal}
 use Rattle.std.specs.List.{list_all, list_any}
-use Rattle.std.specs.Map.{lookup}
 use Rattle.std.specs.Str.{all_ascii_digits, bytes_eq}
 use Rattle.std.proofs.lemmas.Bool.{and_parts, lt-ltb}
 use Rattle.std.proofs.lemmas.Fmt.{decimal_nonempty, digits_decimal}
 use Rattle.std.proofs.lemmas.Slice.Eq.{bytes_eq-Decides}
-use Rattle.np_text.specs.Addresses.{address_of, dotted}
+use Rattle.np_text.specs.Addresses.{dotted}
 use Rattle.np_text.specs.Numbers.{is_numeral, number_of}
-use Rattle.np_text.proofs.NumberLaws.{digits_by_test, number_of-decimal}
+use Rattle.np_text.proofs.NumberLaws.{digits_by_test}
 use Rattle.np_acl.specs.Tables as tables
 use Rattle.np_acl.specs.Tables.{icmp_table, tcp_table, udp_table}
 use Rattle.np_acl.specs.declared.kinds.PortNames.{PortNames}

@@ -3,3 +3,4 @@ pub mod CanonicalParts
 pub mod CanonicalLaws
 pub mod PortLaws
 pub mod SpanMeaning
+pub mod WrittenWords

@@ -120,7 +120,16 @@ fn standard_entry(
     Ok(entry)
 }
 
-/// The entry of a list by the words after `permit` or `deny`, or the first fault in their order.
+/// The entry of a list by the words after `permit` or `deny` (Cisco IOS Security Command Reference,
+/// `access-list (IP extended)`, `access-list (IP standard)`, `permit (IP)`, `deny (IP)`; the ICMP
+/// types and codes of RFC 792, the code points of RFC 2474).
+///
+/// The first fault in the order of the words is an error: `BadEntry` where a word is missing or isn't
+/// what its place needs, `Unsupported` at a word that asks for something without an answer here,
+/// `UnknownName` at a word that is no name of its table, `BadNumber` at a number past its range (255
+/// for a protocol, a type and a code, 65535 for a port, 63 for a code point, 7 for a precedence), and
+/// `BadRange` at a range whose first port is greater than the last. `eq` and `neq` take ten ports at
+/// most. Want of memory may come at any time.
 pub fn entry(
     alloc: Global,
     kind: ListKind,

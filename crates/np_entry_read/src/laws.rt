@@ -5,6 +5,7 @@ ghost use Rattle.std.specs.Prelude.{Ok, ◌≡◌, ◌/◌, ◌≤◌, ◌∷◌
 ghost use Rattle.std.specs.List.{AllByRecursion, list_any};
 ghost use Rattle.np_space.specs.Span.{span_from, span_has};
 ghost use Rattle.np_acl.specs.Entries.{ports_have};
+ghost use Rattle.np_text.specs.Joined.{AreWords};
 ghost use Rattle.np_space.specs.declared.spans.Span.{Span};
 ghost use Rattle.np_acl.specs.Spans.{any_number};
 ghost use Rattle.np_acl.specs.declared.entries.Entry.{Entry};
@@ -34,5 +35,6 @@ pub fn precedences_are_upper_bits()
 /// its ports, the destination and its ports or the ICMP type and code, `dscp` with one code point,
 /// and `established`; what tests nothing is left out. `IsWritten` says which entries have such words.
 pub fn canonical_words_read_back()
-    ensures { (e : Entry) (a b : Span) → IsWritten e a b → entry_of Extended e.permit (entry_words e a b) ≡ Ok e }
+    ensures words { (e : Entry) (a b : Span) → AreWords (entry_words e a b) }
+    ensures back { (e : Entry) (a b : Span) → IsWritten e a b → entry_of Extended e.permit (entry_words e a b) ≡ Ok e }
 {}

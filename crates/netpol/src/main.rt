@@ -4,8 +4,11 @@
 //! status is 6 for want of memory, and 7 for any other cause, as a word that isn't UTF-8.
 #![tactic(auto)]
 
+ghost use Rattle.std.specs.Prelude.{◌≡◌, IfOk, OnErr, ◌⊎◌};
+ghost use Rattle.np_top.specs.Status.{number_of};
+
 use np_outside::{FileShelf, StdSink};
-use np_top::run;
+use np_top::{Status, run};
 use std::alloc::AllocError;
 use std::env;
 use std::io::{self, ErrorKind};
@@ -23,15 +26,36 @@ fn words(rt: &HostRuntime) -> Result<Vec<String>, io::Error> {
     words.map_err(|error: AllocError| io::Error::from(error))
 }
 
-fn main(rt: HostRuntime) -> ExitCode {
-    match words(&rt) {
-        Ok(words) => {
-            let mut shelf = FileShelf::new(&rt);
-            let mut sink = StdSink::new(&rt);
-            let status = run(&rt, rt.alloc(), words.as_slice(), &mut shelf, &mut sink);
-            ExitCode::from(status.number())
-        }
-        Err(error) if error.kind() == ErrorKind::OutOfMemory => ExitCode::from(MEMORY),
-        Err(_) => ExitCode::from(NO_WORDS),
+/// How the run of the words ended, or why they couldn't be had.
+fn run_words(rt: &HostRuntime) -> Result<Status, ErrorKind> {
+    let words = words(rt).map_err(|error| error.kind())?;
+    let mut shelf = FileShelf::new(rt);
+    let mut sink = StdSink::new(rt);
+    Ok(run(rt, rt.alloc(), words.as_slice(), &mut shelf, &mut sink))
+}
+
+/// The exit status where the words couldn't be had.
+fn number_without_words(cause: ErrorKind) -> u8
+    ensures { (result ≡ 6) ⊎ (result ≡ 7) }
+{
+    if cause == ErrorKind::OutOfMemory {
+        MEMORY
+    } else {
+        NO_WORDS
     }
+}
+
+/// The exit status of the process: that of the run, where there was one.
+fn exit_number(ended: Result<Status, ErrorKind>) -> u8
+    ensures ran { IfOk ended (λ status. result ≡ number_of status) }
+    ensures no_words { OnErr ended ((result ≡ 6) ⊎ (result ≡ 7)) }
+{
+    match ended {
+        Ok(status) => status.number(),
+        Err(cause) => number_without_words(cause),
+    }
+}
+
+fn main(rt: HostRuntime) -> ExitCode {
+    ExitCode::from(exit_number(run_words(&rt)))
 }

@@ -148,7 +148,7 @@ fn atoms_with<S: Regions>(
     Ok(atoms)
 }
 
-/// The atoms of the cuts: the classes of the valid headers for which each cut answers the same, in the
+/// The atoms of the cuts (Guttman and Herzog 2005, the Atomizer): the classes of the valid headers for which each cut answers the same, in the
 /// order of their least members. Without cuts it is one atom, of all valid headers. Fails only for
 /// want of memory. Each cut must fit the store. It looks at each cut once for each atom so far, and
 /// sorts the atoms at the end.

@@ -105,6 +105,15 @@ module _ {E : Type 0} (interfaces : List Interface) (configs : List Config) wher
   lets_by_result (Ok a) e = λ slot within h. ap (λ q. applied_lets q slot h) e ∙ applied_is interfaces configs slot within h
   lets_by_result (Err x) e = e
 
+  pub slots_by_result : (result : Result AppliedLists E) → IfOk result (λ a. a ≡ applied_of interfaces configs) → IfOk result (λ a. length a.at ≡ 2 * length interfaces)
+  slots_by_result (Ok a) e =
+      let keys = slot_keys interfaces configs in
+      ap (λ (q : AppliedLists). length q.at) e
+      ∙ length-map keys (place_in (names_of_keys keys))
+      ∙ length-map (range_with_len 0 (2 * length interfaces)) (slot_key interfaces configs)
+      ∙ length-range_with_len 0 (2 * length interfaces)
+  slots_by_result (Err x) e = e
+
   pub once_by_result : (result : Result AppliedLists E) → IfOk result (λ a. a ≡ applied_of interfaces configs) → IfOk result (λ a. AreDistinct same_place a.names)
   once_by_result (Ok a) e = subst (λ (q : AppliedLists). AreDistinct same_place q.names) (sym e) (names_distinct (slot_keys interfaces configs))
   once_by_result (Err x) e = e

@@ -46,6 +46,7 @@ config_at configs device = slice_index_or configs device record { lists = []; gr
 abbrev pub slot_interface : List Interface → ℕ → Interface
 slot_interface interfaces slot = interface_at interfaces (slot / 2)
 
+-- whether a slot is its interface inward or outward
 abbrev pub slot_way : ℕ → Way
 slot_way slot = if slot % 2 == 0 then Inward else Outward
 

@@ -1,20 +1,15 @@
 -- What is cut out of the valid headers, an entry of a list at a time.
 use Rattle.std.specs.Prelude.{◌≡◌, Bool, ◌&&◌, List, ◌++◌}
-use Rattle.np_space.specs.Flag.{flag_number}
 use Rattle.np_space.specs.Header.{is_valid_header}
-use Rattle.np_space.specs.Span.{span_has}
-use Rattle.np_space.specs.Ternary.{ternary_has}
 use Rattle.np_space.specs.declared.headers.Header.{Header}
 use Rattle.np_space.specs.declared.spans.Span.{Span}
 use Rattle.np_acl.specs.declared.entries.Entry.{Entry}
-use Rattle.np_acl.specs.Entries.{ports_have, first_says}
+use Rattle.np_acl.specs.Entries.{entry_matches, first_says}
 use Rattle.np_region.specs.Keeping.{KeepsRegions}
 
 -- what an entry would match with these spans for its ports
 abbrev pub matches_with : Entry → List Span → List Span → Header → Bool
-matches_with e a b h =
-    span_has e.proto h.proto && ternary_has e.src h.src && ternary_has e.dst h.dst
-    && ports_have a h.a && ports_have b h.b && span_has e.est (flag_number h.est) && span_has e.dscp h.dscp
+matches_with e a b h = entry_matches (record e { a = a; b = b }) h
 
 -- Between two stores the regions are kept, and this one has exactly the headers that pass the test.
 pub record IsRegionOf {S R : Type 0} (fits : S → R → Type 0) (has : S → R → Header → Bool) (test : Header → Bool) (old new : S) (x : R) : Type 0 where

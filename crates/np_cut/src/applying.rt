@@ -56,12 +56,13 @@ fn applied_with(
     Ok(Applied { lists, names, at })
 }
 
-/// The lists that configurations apply at the slots of a network: one configuration for each device,
-/// in the order of the devices. Fails only for want of memory. Time and memory are linear in the
+/// The lists that configurations apply at the slots of a network, as its filtering posture (Guttman and
+/// Herzog 2005): one configuration for each device, in the order of the devices. Fails only for want of memory. Time and memory are linear in the
 /// configurations and the slots; no list is copied.
 pub fn apply(alloc: Global, net: &Network, configs: Vec<Config>) -> Result<Applied, AllocError>
     ensures made { IfOk result (λ applied. applied ≡ applied_of net.now.interfaces configs.items) }
     ensures lets { IfOk result (λ applied. (slot : ℕ) → slot < 2 * length net.now.interfaces → (h : Header) → applied_lets applied slot h ≡ slot_lets net.now.interfaces configs.items slot h) }
+    ensures slots { IfOk result (λ applied. length applied.at ≡ 2 * length net.now.interfaces) }
     ensures devices { IfOk result (λ applied. AllByRecursion (λ name. name.0 < length net.now.devices) applied.names) }
     ensures once { IfOk result (λ applied. AreDistinct same_place applied.names) }
 {

@@ -33,8 +33,9 @@ fn with_lists<S: Regions>(
     Ok(cuts)
 }
 
-/// Adds the regions of predicates after other cuts. Fails only for want of memory.
-pub(crate) fn with_preds<S: Regions>(
+/// Other cuts, and after them the regions of the predicates, one for each, in their order. Fails only for
+/// want of memory.
+pub fn with_preds<S: Regions>(
     alloc: Global,
     store: &mut S,
     before: Vec<S::R>,
@@ -64,8 +65,8 @@ fn goal_preds(alloc: Global, goals: &[Goal]) -> Result<Vec<&Pred>, AllocError>
     Ok(preds)
 }
 
-/// The regions of the lists that are applied, in their order, and then those of the goals'
-/// predicates. Fails only for want of memory.
+/// The cuts of a network's filtering (Guttman and Herzog 2005): the regions of the lists that are
+/// applied, in their order, and then those of the goals' predicates. Fails only for want of memory.
 pub fn filter_cuts<S: Regions>(
     alloc: Global,
     store: &mut S,

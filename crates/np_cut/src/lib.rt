@@ -12,6 +12,6 @@ mod pred_regions;
 
 pub use applied::{Applied, lets};
 pub use applying::apply;
-pub use filtering::filter_cuts;
+pub use filtering::{filter_cuts, with_preds};
 pub use list_regions::{entry_region, list_region};
 pub use pred_regions::pred_region;

@@ -143,7 +143,8 @@ fn entries_region<S: Regions>(store: &mut S, entries: &[Entry]) -> Result<S::R, 
     Ok(permitted)
 }
 
-/// Exactly the valid headers that the list permits. Fails only for want of memory. Each entry of the
+/// Exactly the valid headers that the list permits, by its first entry that matches (Cisco IOS Security
+/// Command Reference, `access-list`; Guttman and Herzog 2005). Fails only for want of memory. Each entry of the
 /// list is looked at once, and costs one join or one difference of regions beside its own region.
 pub fn list_region<S: Regions>(
     _alloc: Global,

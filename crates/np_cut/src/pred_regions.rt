@@ -30,8 +30,8 @@ fn of_two<S: Regions>(store: &mut S, first: &Block, second: &Block) -> Result<S:
     store.join(&x, &y)
 }
 
-// The valid headers whose source is in one of the patterns.
-fn sources<S: Regions>(store: &mut S, patterns: &[Ternary]) -> Result<S::R, AllocError>
+/// The valid headers whose source is in one of the patterns. Fails only for want of memory.
+pub(crate) fn sources<S: Regions>(store: &mut S, patterns: &[Ternary]) -> Result<S::R, AllocError>
     ensures kept { KeepsRegions S.fits S.has_header store.old store.new }
     ensures fits { IfOk result (λ x. S.fits store.new x) }
     ensures exact { IfOk result (λ x. (h : Header) → S.has_header store.new x h ≡ (is_valid_header h && any_pattern_has patterns.now h.src)) }

@@ -7,24 +7,25 @@ use Rattle.np_text.specs.Joined.{AreLinesOfWords, joined_line, joined_text}
 use Rattle.np_text.specs.Lines.{lines_of, numbered_lines}
 use Rattle.np_lines.specs.Declaring.{GrowsBy, added_if, lines_give, text_gives}
 use Rattle.np_lines.specs.Judging.{Judged, ◌>>=◌}
-use Rattle.np_lines.specs.Reading.{and_one, EachSays, at_line, statements_from, text_says}
+use Rattle.np_lines.specs.Reading.{and_one, EachSays, at_line, statements_from, statements_said, text_says}
 
--- lines that each say one of these statements are read as these, after those before them
-pub each_read : {W S : Type 0} (judge : List S → List ℕ → Judged W (Option S)) (before : List S) (number : ℕ) (lines : List (List ℕ)) (statements : List S) → EachSays judge before lines statements → statements_from judge before number lines ≡ Ok (before ++ statements)
+-- lines that each say this are read as the statements among it, after those before them
+pub each_read : {W S : Type 0} (judge : List S → List ℕ → Judged W (Option S)) (before : List S) (number : ℕ) (lines : List (List ℕ)) (saids : List (Option S)) → EachSays judge before lines saids → statements_from judge before number lines ≡ Ok (before ++ statements_said saids)
 each_read judge before number [] [] says = ap (λ all. Ok all) (sym (append-nil before))
-each_read judge before number [] (s ∷ statements) says = absurd says
+each_read judge before number [] (said ∷ saids) says = absurd says
 each_read judge before number (line ∷ lines) [] says = absurd says
-each_read judge before number (line ∷ lines) (s ∷ statements) says =
-    rw says.0 (each_read judge (before ++ s ∷ []) (number + 1) lines statements says.1 ∙ ap (λ all. Ok all) (append_assoc before (s ∷ []) statements))
+each_read judge before number (line ∷ lines) (None ∷ saids) says = rw says.0 (each_read judge before (number + 1) lines saids says.1)
+each_read judge before number (line ∷ lines) (Some s ∷ saids) says =
+    rw says.0 (each_read judge (before ++ s ∷ []) (number + 1) lines saids says.1 ∙ ap (λ all. Ok all) (append_assoc before (s ∷ []) (statements_said saids)))
 
 -- so is a text of such lines
-pub text_read : {W S : Type 0} (judge : List S → List ℕ → Judged W (Option S)) (text : List ℕ) (statements : List S) → EachSays judge [] (lines_of text) statements → text_says judge text ≡ Ok statements
-text_read judge text statements says = each_read judge [] 1 (lines_of text) statements says
+pub text_read : {W S : Type 0} (judge : List S → List ℕ → Judged W (Option S)) (text : List ℕ) (saids : List (Option S)) → EachSays judge [] (lines_of text) saids → text_says judge text ≡ Ok (statements_said saids)
+text_read judge text saids says = each_read judge [] 1 (lines_of text) saids says
 
 -- and a text of joined words whose lines are such
-pub joined_read : {W S : Type 0} (judge : List S → List ℕ → Judged W (Option S)) (lines : List (Bool × List (List ℕ))) (statements : List S) → AreLinesOfWords lines → EachSays judge [] (map (λ line. joined_line line.0 line.1) lines) statements → text_says judge (joined_text lines) ≡ Ok statements
-joined_read judge lines statements words says =
-    ap (statements_from judge [] 1) (lines_of-joined_text lines words) ∙ each_read judge [] 1 (map (λ line. joined_line line.0 line.1) lines) statements says
+pub joined_read : {W S : Type 0} (judge : List S → List ℕ → Judged W (Option S)) (lines : List (Bool × List (List ℕ))) (saids : List (Option S)) → AreLinesOfWords lines → EachSays judge [] (map (λ line. joined_line line.0 line.1) lines) saids → text_says judge (joined_text lines) ≡ Ok (statements_said saids)
+joined_read judge lines saids words says =
+    ap (statements_from judge [] 1) (lines_of-joined_text lines words) ∙ each_read judge [] 1 (map (λ line. joined_line line.0 line.1) lines) saids says
 
 module _ {W S D N : Type 0} (judge : D → List ℕ → Judged W (Option S)) (declared_by : List S → D) (added : D → S → D) (make : D → N) (grows : GrowsBy declared_by added) where
   -- statements with one more, where there is one, declare what was declared and that one

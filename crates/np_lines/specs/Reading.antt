@@ -25,9 +25,15 @@ statements_from judge before number (line ∷ lines) =
 abbrev pub text_says : {W S : Type 0} → (List S → List ℕ → Judged W (Option S)) → List ℕ → Judged (LineFault W) (List S)
 text_says judge text = statements_from judge [] 1 (lines_of text)
 
--- each of these lines says one of these statements, the first line the first one, after these and those of the lines before it
-abbrev pub EachSays : {W S : Type 0} → (List S → List ℕ → Judged W (Option S)) → List S → List (List ℕ) → List S → Type 0
+-- the statements among what lines say
+abbrev pub statements_said : {S : Type 0} → List (Option S) → List S
+statements_said [] = []
+statements_said (None ∷ saids) = statements_said saids
+statements_said (Some s ∷ saids) = s ∷ statements_said saids
+
+-- each of these lines says this, a statement or nothing, the first line the first, after these statements and those of the lines before it
+abbrev pub EachSays : {W S : Type 0} → (List S → List ℕ → Judged W (Option S)) → List S → List (List ℕ) → List (Option S) → Type 0
 EachSays judge before [] [] = Unit {0}
-EachSays judge before [] (s ∷ statements) = ⊥
+EachSays judge before [] (said ∷ saids) = ⊥
 EachSays judge before (line ∷ lines) [] = ⊥
-EachSays judge before (line ∷ lines) (s ∷ statements) = (judge before line ≡ Ok (Some s)) × EachSays judge (before ++ s ∷ []) lines statements
+EachSays judge before (line ∷ lines) (said ∷ saids) = (judge before line ≡ Ok said) × EachSays judge (and_one before said) lines saids

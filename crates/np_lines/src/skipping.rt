@@ -1,6 +1,7 @@
-ghost use Rattle.std.specs.Prelude.{◌≡◌, ◌∷◌, true, false, drop, IfOk, IfNone, IfSome, OnSome};
+ghost use Rattle.std.specs.Prelude.{◌≡◌, ◌∷◌, true, false, drop, map, IfOk, IfNone, IfSome, OnSome};
 ghost use Rattle.std.specs.List.{list_all};
-ghost use Rattle.np_text.specs.Words.{words_of};
+ghost use Rattle.np_text.specs.Views.{word_view};
+ghost use Rattle.np_text.specs.Words.{placed_words, words_of};
 ghost use Rattle.np_lines.specs.Answers.{texts};
 ghost use Rattle.np_lines.specs.Skipping as rule;
 
@@ -55,6 +56,7 @@ pub fn statement_words(
     ensures skipped { IfOk result (λ found. IfNone found (rule.is_skipped mark (words_of line.now) ≡ true)) }
     ensures judged { IfOk result (λ found. OnSome found (rule.is_skipped mark (words_of line.now) ≡ false)) }
     ensures words { IfOk result (λ found. IfSome found (λ list. texts list.items ≡ words_of line.now)) }
+    ensures placed { IfOk result (λ found. IfSome found (λ list. map word_view list.items ≡ placed_words 0 line.now)) }
 {
     match first_word(line, mark) {
         Some(_) => Ok(Some(word_list(alloc, line)?)),

@@ -1,7 +1,7 @@
 -- The limits of a network: the constants of the code.
 use Rattle.std.specs.Prelude.{ℕ}
 use Rattle.np_pred.specs.declared.reading.TheConstants.{NESTING_LIMIT}
-use Rattle.np_net.specs.declared.limits.TheConstants.{DECLARATION_LIMIT, INTERFACE_LIMIT, RULE_LIMIT, DEPTH_LIMIT}
+use Rattle.np_net.specs.declared.limits.TheConstants.{DECLARATION_LIMIT, INTERFACE_LIMIT, RULE_LIMIT, DEPTH_LIMIT, NAME_LIMIT}
 
 -- areas, devices, goals, security associations and IPsec goals, each
 abbrev pub declaration_limit : ℕ
@@ -22,3 +22,7 @@ nesting_limit = NESTING_LIMIT
 -- the headers of associations on one packet
 abbrev pub depth_limit : ℕ
 depth_limit = DEPTH_LIMIT
+
+-- the bytes of a name
+abbrev pub name_limit : ℕ
+name_limit = NAME_LIMIT

@@ -3,6 +3,7 @@ use Rattle.std.specs.Prelude.{ℕ, Bool, false, ◌&&◌, ◌||◌, not, ◌==�
 use Rattle.std.specs.List.{list_all}
 use Rattle.std.specs.Char.{is_ascii_alphabetic, is_ascii_digit}
 use Rattle.std.specs.Str.{bytes_eq}
+use Rattle.np_net.specs.Limits.{name_limit}
 
 -- a letter, a digit, or one of `-`, `_` and `.`
 abbrev pub is_name_byte : ℕ → Bool
@@ -12,10 +13,10 @@ is_name_byte b = is_ascii_alphabetic b || is_ascii_digit b || b == 45 || b == 95
 abbrev pub is_interface_byte : ℕ → Bool
 is_interface_byte b = is_name_byte b || b == 47 || b == 58
 
--- a letter, and then these bytes, 64 at most in all
+-- a letter, and then these bytes, as many in all as a name may have
 abbrev pub is_named_by : (ℕ → Bool) → List ℕ → Bool
 is_named_by may [] = false
-is_named_by may (b ∷ bs) = is_ascii_alphabetic b && list_all may bs && nat_le (length (b ∷ bs)) 64
+is_named_by may (b ∷ bs) = is_ascii_alphabetic b && list_all may bs && nat_le (length (b ∷ bs)) name_limit
 
 -- the name of an area, a device or a security association
 abbrev pub is_name : List ℕ → Bool

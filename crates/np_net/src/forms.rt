@@ -4,8 +4,7 @@ ghost use Rattle.std.specs.Prelude.{◌≡◌};
 ghost use Rattle.std.specs.List.{list_all};
 ghost use Rattle.np_net.specs.Names as names;
 
-/// The bytes of a name, at most.
-const NAME_LIMIT: usize = 64;
+use crate::limits::NAME_LIMIT;
 
 fn is_name_byte(byte: u8) -> bool
     ensures { result ≡ names.is_name_byte byte }

@@ -19,8 +19,8 @@ pub use associations::{
 };
 pub use filtering::{Area, Device, Goal, Interface};
 pub use forms::{is_interface_name, is_name};
-pub use laws::names_are_found;
-pub use limits::{DECLARATION_LIMIT, DEPTH_LIMIT, INTERFACE_LIMIT, RULE_LIMIT};
+pub use laws::{limits_are_these, names_are_found};
+pub use limits::{DECLARATION_LIMIT, DEPTH_LIMIT, INTERFACE_LIMIT, NAME_LIMIT, RULE_LIMIT};
 pub use names::{Names, Places};
 pub use naming::{area_name, device_name, interface_name, sa_name};
 pub use net_names::NetNames;

@@ -11,3 +11,6 @@ pub const RULE_LIMIT: usize = 4096;
 
 /// How many headers of associations a packet may have at most.
 pub const DEPTH_LIMIT: u8 = 16;
+
+/// How many bytes a name may have at most.
+pub const NAME_LIMIT: usize = 64;

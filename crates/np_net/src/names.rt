@@ -1,6 +1,6 @@
 //! Names that are looked up by a hash.
 
-ghost use Rattle.std.specs.Prelude.{◌≡◌, ◌<◌, ◌++◌, ◌∷◌, [], ℕ, List, false, length, IfOk, IfSome, OnOk};
+ghost use Rattle.std.specs.Prelude.{◌≡◌, ◌<◌, ◌++◌, ◌∷◌, [], ℕ, List, false, length, IfOk, IfSome, OnErr, OnOk};
 ghost use Rattle.std.specs.List.{list_any};
 ghost use Rattle.std.specs.Str.{bytes_eq};
 ghost use Rattle.np_net.specs.Distinct.{same_place};
@@ -54,10 +54,11 @@ impl Names {
         Ok(self.names.contains(&name))
     }
 
-    /// Adds a name that isn't there.
+    /// Adds a name that isn't there. Where memory runs out, the names stay as they were.
     pub fn add(&mut self, alloc: Global, name: &[u8]) -> Result<(), AllocError>
         requires { list_any (bytes_eq name.now) self.old ≡ false }
-        ensures { OnOk result (self.new ≡ self.old ++ name.now ∷ []) }
+        ensures ok { OnOk result (self.new ≡ self.old ++ name.now ∷ []) }
+        ensures err { OnErr result (self.new ≡ self.old) }
     {
         let name = Name::of(alloc, name)?;
         self.names.insert(name)?;
@@ -113,10 +114,11 @@ impl Places {
         Ok(self.places.contains(&(device, name)))
     }
 
-    /// Adds an interface that isn't there.
+    /// Adds an interface that isn't there. Where memory runs out, they stay as they were.
     pub fn add(&mut self, alloc: Global, device: DevId, name: &[u8]) -> Result<(), AllocError>
         requires { list_any (same_place (device, name.now)) self.old ≡ false }
-        ensures { OnOk result (self.new ≡ self.old ++ (device, name.now) ∷ []) }
+        ensures ok { OnOk result (self.new ≡ self.old ++ (device, name.now) ∷ []) }
+        ensures err { OnErr result (self.new ≡ self.old) }
     {
         let name = Name::of(alloc, name)?;
         self.places.insert((device, name))?;

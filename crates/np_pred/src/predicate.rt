@@ -21,9 +21,9 @@ pub enum Pred {
     Src(Items<Ternary>),
     /// The destination address is in one of the patterns.
     Dst(Items<Ternary>),
-    /// TCP or UDP, with a source port in the span (RFC 793, RFC 768).
+    /// TCP or UDP, with a source port in the span (RFC 9293, RFC 768).
     SrcPort(Span),
-    /// TCP or UDP, with a destination port in the span (RFC 793, RFC 768).
+    /// TCP or UDP, with a destination port in the span (RFC 9293, RFC 768).
     DstPort(Span),
     /// ICMP, of this type (RFC 792).
     IcmpType(u8),

@@ -9,7 +9,8 @@ ghost use Rattle.np_region.specs.Keeping.{KeepsRegions};
 use np_space::{Block, Header};
 use std::alloc::AllocError;
 
-/// A store of regions: sets of valid headers that are made of blocks and of one another.
+/// A store of regions: sets of valid headers that are made of blocks and of one another (Guttman and
+/// Herzog 2005, where a set of packets is a union of such blocks).
 ///
 /// A region means something together with the store that gave it. Every call, one that fails
 /// included, leaves each region that fitted the store fitting it, with the headers that it had. A

@@ -3,7 +3,7 @@ use Rattle.std.specs.List.{range_with_len}
 use Rattle.np_net.specs.Network.{IsNetwork}
 use Rattle.np_cut.specs.Applying.{applied_by_keys, applied_of, slot_key}
 use Rattle.np_cut.specs.AppliedLists.{AppliedLists}
-use Rattle.np_cut.proofs.ApplyLaws.{devices_by_result, lets_by_result, once_by_result}
+use Rattle.np_cut.proofs.ApplyLaws.{devices_by_result, lets_by_result, once_by_result, slots_by_result}
 use Rattle.np_cut.proofs.applying.apply.Goals as goal
 
 pub returns-clause-made : goal.returns-clause-made
@@ -24,3 +24,6 @@ returns-clause-devices c = devices_by_result c.args.net.now c.args.configs.items
 
 pub returns-clause-once : goal.returns-clause-once
 returns-clause-once c = once_by_result c.args.net.now.interfaces c.args.configs.items c.applied_with.result (returns-clause-made c)
+
+pub returns-clause-slots : goal.returns-clause-slots
+returns-clause-slots c = slots_by_result c.args.net.now.interfaces c.args.configs.items c.applied_with.result (returns-clause-made c)

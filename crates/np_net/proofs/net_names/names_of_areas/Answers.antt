@@ -11,4 +11,4 @@ add-requires c =
 
 pub loop-area-preserved : goal.loop-area-preserved
 loop-area-preserved c =
-    rw (map_next (λ (area : Area). area.name) c.args.areas.now c.loop-area.area-index c.area-item.result c.loop-area-test.true c.area-item.is, ← c.bytes.ensures, ← c.loop-area.invariant) c.in_ok-add.ensures
+    rw (map_next (λ (area : Area). area.name) c.args.areas.now c.loop-area.area-index c.area-item.result c.loop-area-test.true c.area-item.is, ← c.bytes.ensures, ← c.loop-area.invariant) c.in_ok-add.ensures.ok

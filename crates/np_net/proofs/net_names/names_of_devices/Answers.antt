@@ -11,4 +11,4 @@ add-requires c =
 
 pub loop-device-preserved : goal.loop-device-preserved
 loop-device-preserved c =
-    rw (map_next (λ (device : Device). device.name) c.args.devices.now c.loop-device.device-index c.device-item.result c.loop-device-test.true c.device-item.is, ← c.bytes.ensures, ← c.loop-device.invariant) c.in_ok-add.ensures
+    rw (map_next (λ (device : Device). device.name) c.args.devices.now c.loop-device.device-index c.device-item.result c.loop-device-test.true c.device-item.is, ← c.bytes.ensures, ← c.loop-device.invariant) c.in_ok-add.ensures.ok

@@ -11,4 +11,4 @@ add-requires c =
 
 pub loop-sa-preserved : goal.loop-sa-preserved
 loop-sa-preserved c =
-    rw (map_next (λ (sa : Sa). sa.name) c.args.sas.now c.loop-sa.sa-index c.sa-item.result c.loop-sa-test.true c.sa-item.is, ← c.bytes.ensures, ← c.loop-sa.invariant) c.in_ok-add.ensures
+    rw (map_next (λ (sa : Sa). sa.name) c.args.sas.now c.loop-sa.sa-index c.sa-item.result c.loop-sa-test.true c.sa-item.is, ← c.bytes.ensures, ← c.loop-sa.invariant) c.in_ok-add.ensures.ok

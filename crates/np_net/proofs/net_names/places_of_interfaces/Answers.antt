@@ -14,4 +14,4 @@ add-requires c =
 
 pub loop-interface-preserved : goal.loop-interface-preserved
 loop-interface-preserved c =
-    rw (map_next place_of c.args.interfaces.now c.loop-interface.interface-index c.interface-item.result c.loop-interface-test.true c.interface-item.is, ← c.bytes.ensures, ← c.loop-interface.invariant) c.in_ok-add.ensures
+    rw (map_next place_of c.args.interfaces.now c.loop-interface.interface-index c.interface-item.result c.loop-interface-test.true c.interface-item.is, ← c.bytes.ensures, ← c.loop-interface.invariant) c.in_ok-add.ensures.ok

@@ -1,8 +1,8 @@
 -- What `show` reads and writes.
 use Rattle.std.specs.Prelude.{◌≡◌, ℕ, List, Option, Result, codes}
 use Rattle.np_outside.specs.Files.{Files}
+use Rattle.np_lines.specs.declared.fault.LineFault.{LineFault}
 use Rattle.np_net.specs.Plan.{Plan}
-use Rattle.np_net_read.specs.declared.fault.NetFault.{NetFault}
 use Rattle.np_net_read.specs.declared.fault.NetWhy.{NetWhy}
 use Rattle.np_net_read.specs.declared.fault.NetWhy.TheVariants as why
 use Rattle.np_net_read.specs.Canonical.{net_text}
@@ -29,7 +29,7 @@ why_name why.SameArea = codes "SameArea"
 why_name why.WrongEnd = codes "WrongEnd"
 
 -- what is written for a file with this fault
-abbrev pub fault_text : List ℕ → NetFault → List ℕ
+abbrev pub fault_text : List ℕ → LineFault NetWhy → List ℕ
 fault_text file fault = refused_text file fault.line (why_name fault.why)
 
 -- the network that a file declares, or the line that is written where it is too long or faulty; nothing where it isn't there

@@ -15,7 +15,8 @@ use crate::lists::Lists;
 use crate::network::Name;
 use crate::protocol_entry::protocol_entry;
 use crate::reader_error::ReaderError;
-use np_text::{lines, put_number, word_list};
+use crate::tokens::bytes_of_words;
+use np_text::{lines, put_number};
 use sqlite_items::Items;
 use std::alloc::{AllocError, Global};
 
@@ -124,7 +125,7 @@ fn read_words(alloc: Global, reading: &mut Reading, words: &[&[u8]]) -> Result<b
 fn read_line(alloc: Global, reading: &mut Reading, line: &[u8]) -> Result<bool, AllocError>
     ensures { IfOk result (λ taken. config_text.read_line reading.old line.now ≡ left_by taken reading.new) }
 {
-    let words = word_list(alloc, line)?;
+    let words = bytes_of_words(alloc, line)?;
     read_words(alloc, reading, words.as_slice())
 }
 

@@ -12,8 +12,8 @@ ghost use Rattle.np_top.specs.Tokens.{texts};
 use crate::network::{Device, Interface, Name, Network};
 use crate::reader_error::ReaderError;
 use crate::statements::{new_area, new_device, new_goal, new_interface};
-use crate::tokens::is_text;
-use np_text::{lines, word_list};
+use crate::tokens::{bytes_of_words, is_text};
+use np_text::lines;
 use sqlite_items::Items;
 use std::alloc::{AllocError, Global};
 
@@ -152,7 +152,7 @@ fn after_line(alloc: Global, net: &mut Network, line: &[u8]) -> Result<bool, All
     if !is_text(line) {
         return Ok(false);
     }
-    let words = word_list(alloc, line)?;
+    let words = bytes_of_words(alloc, line)?;
     after_words(alloc, net, words.as_slice())
 }
 

@@ -1,15 +1,28 @@
 //! Words and the names that they may be.
 
-ghost use Rattle.std.specs.Prelude.{◌≡◌, ◌==◌, is_some};
+ghost use Rattle.std.specs.Prelude.{◌≡◌, ◌==◌, is_some, IfOk};
 ghost use Rattle.std.specs.Option.{option_map};
 ghost use Rattle.std.specs.List.{list_all, slice_split};
 ghost use Rattle.np_text.specs.Addresses.{prefix_of};
 ghost use Rattle.np_text.specs.Numbers.{number_of};
+ghost use Rattle.np_text.specs.Words.{words_of};
 ghost use Rattle.np_top.specs.declared.network.Protocols.TheVariants.{One};
 ghost use Rattle.np_top.specs.Tokens as tokens;
 
 use crate::network::Protocols;
-use np_text::{number, prefix};
+use np_text::{number, prefix, words};
+use std::alloc::{AllocError, Global};
+
+/// The words of a line, each as the bytes that it has.
+pub fn bytes_of_words(alloc: Global, line: &[u8]) -> Result<Vec<&[u8]>, AllocError>
+    ensures { IfOk result (λ list. tokens.texts list.items ≡ words_of line.now) }
+{
+    let mut list = Vec::new(alloc);
+    for word in words(line) {
+        list.push(word.bytes)?;
+    }
+    Ok(list)
+}
 
 fn is_text_byte(byte: u8) -> bool
     ensures { result ≡ tokens.is_text_byte byte }

@@ -8,10 +8,11 @@ use Rattle.np_top.proofs.judge.judge_protocol.Goals as goal
 
 pub loop-n-preserved : goal.loop-n-preserved
 loop-n-preserved c =
+    let lets = rw c.zeros-header.ensures at c.in_ok-lets.ensures.lets in
     let here : c.loop-n.n < length c.loop-n.verdicts = search rules in
     let more : IsJudged c.args.net.now c.args.configs.now (c.args.protocol + 1) (goal_at c.args.net.now.goals c.loop-n.n) c.in_ok-verdicts.field-0 =
     judged-more c.args.net.now c.args.configs.now (is_marked c.in_ok-lets.lets.items) c.args.protocol (goal_at c.args.net.now.goals c.loop-n.n)
-    (get_or c.loop-n.verdicts c.loop-n.n false) c.in_ok-verdicts.field-0 c.ranges.protocol.fits c.in_ok-lets.ensures.lets
+    (get_or c.loop-n.verdicts c.loop-n.n false) c.in_ok-verdicts.field-0 c.ranges.protocol.fits lets
     (rw (c.as_slice.ensures.value, c.as_slice-goals.ensures) at c.in_ok-verdicts.ensures.holds)
     (rw (c.as_slice.ensures.value, c.as_slice-goals.ensures) at c.in_ok-verdicts.ensures.broken)
     (c.loop-n.invariant.untried c.loop-n.n (search rules) (search rules)) in

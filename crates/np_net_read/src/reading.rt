@@ -77,9 +77,12 @@ fn network(alloc: Global, draft: Draft) -> Result<Network, AllocError>
     })
 }
 
-/// The network that a text declares.
+/// The network that a text declares: areas, devices, interfaces, free slots and filtering goals
+/// (Guttman and Herzog, Rigorous automated network security management, 2005), at most 256 of each
+/// but for 1,024 interfaces, and a depth of 1 to 16.
 ///
-/// The first faulty line is an error, with its number and its first fault in the order of its words.
+/// `Fault` comes where a line is faulty: the number of the first such line, counted from 1, and its
+/// first fault in the order of its words. `Memory` may come at any time.
 #[tactic(auto, using(crate::proofs::LineReading::net_begins))]
 pub fn read_net(alloc: Global, bytes: &[u8]) -> Result<Network, NetError>
     ensures net { IfOk result (λ net. net_of bytes.now ≡ Ok net) }

@@ -136,7 +136,11 @@ fn canonical_texts(rt: HostRuntime) -> Result<(), Fail> {
         ("a canonical text", OPEN_SHOWN, OPEN_SHOWN),
         ("line ends of two bytes", RETURNS, OPEN_SHOWN),
         ("a predicate with an area", ONLY, ONLY_SHOWN),
-        ("predicates on the code point", CODE_POINTS, CODE_POINTS_SHOWN),
+        (
+            "predicates on the code point",
+            CODE_POINTS,
+            CODE_POINTS_SHOWN,
+        ),
         ("each form of statement", MIXED, MIXED_SHOWN),
         ("an area alone", "area z none", "depth 8\narea z none\n"),
         ("an empty file", "", "depth 8\n"),

@@ -197,11 +197,15 @@ fn an_entry_without_words_tests_nothing(rt: HostRuntime) -> Result<(), Fail> {
 }
 
 #[test]
-fn words_of_the_tables(rt: HostRuntime) {
+fn protocols_by_words(rt: HostRuntime) {
     for (word, want) in PROTOCOLS {
         let want = want.map(|ends| span(ends.0, ends.1));
         assert_eq!(rt; protocol_of(word.as_bytes()), want, "{word}");
     }
+}
+
+#[test]
+fn ports_by_words(rt: HostRuntime) {
     for (word, tcp, udp) in PORTS {
         assert_eq!(rt;
             port_of(word.as_bytes(), PortNames::Tcp),
@@ -214,9 +218,17 @@ fn words_of_the_tables(rt: HostRuntime) {
             "{word} of UDP"
         );
     }
+}
+
+#[test]
+fn messages_by_words(rt: HostRuntime) {
     for (word, want) in MESSAGES {
         assert_eq!(rt; icmp_of(word.as_bytes()), want, "{word}");
     }
+}
+
+#[test]
+fn code_points_by_words(rt: HostRuntime) {
     for (word, dscp, precedence) in CODE_POINTS {
         assert_eq!(rt; dscp_of(word.as_bytes()), dscp, "{word} as a code point");
         assert_eq!(rt;

@@ -26,14 +26,6 @@ fn words(rt: &HostRuntime) -> Result<Vec<String>, io::Error> {
     words.map_err(|error: AllocError| io::Error::from(error))
 }
 
-/// How the run of the words ended, or why they couldn't be had.
-fn run_words(rt: &HostRuntime) -> Result<Status, ErrorKind> {
-    let words = words(rt).map_err(|error| error.kind())?;
-    let mut shelf = FileShelf::new(rt);
-    let mut sink = StdSink::new(rt);
-    Ok(run(rt, rt.alloc(), words.as_slice(), &mut shelf, &mut sink))
-}
-
 /// The exit status where the words couldn't be had.
 fn number_without_words(cause: ErrorKind) -> u8
     ensures { (result ≡ 6) ⊎ (result ≡ 7) }
@@ -57,5 +49,13 @@ fn exit_number(ended: Result<Status, ErrorKind>) -> u8
 }
 
 fn main(rt: HostRuntime) -> ExitCode {
-    ExitCode::from(exit_number(run_words(&rt)))
+    let ended = match words(&rt) {
+        Ok(words) => {
+            let mut shelf = FileShelf::new(&rt);
+            let mut sink = StdSink::new(&rt);
+            Ok(run(&rt, rt.alloc(), words.as_slice(), &mut shelf, &mut sink))
+        }
+        Err(error) => Err(error.kind()),
+    };
+    ExitCode::from(exit_number(ended))
 }

@@ -28,7 +28,8 @@ fn read(alloc: Global, areas: &Areas, line: &[u8]) -> Result<Pred, PredError> {
 
 // The canonical text of the predicate of a line.
 fn canonical(alloc: Global, areas: &Areas, line: &[u8]) -> Result<Vec<u8>, PredError> {
-    let pred = read(alloc, areas, line)?;
+    let words = word_list(alloc, line)?;
+    let pred = parse(alloc, words.as_slice(), areas)?;
     let mut out = Vec::new(alloc);
     put_pred(&mut out, &pred)?;
     Ok(out)

@@ -5,6 +5,7 @@ use np_acl::{
 };
 use np_space::{Header, Span, Ternary};
 use std::alloc::{AllocError, Global};
+use std::process::Abort;
 use std::test::Fail;
 
 /// Ports, code points, and what a list says to TCP segments with them.
@@ -178,21 +179,33 @@ fn an_entry_without_words_tests_nothing(rt: HostRuntime) -> Result<(), Fail> {
         assert_eq!(rt; any.matches(&tcp_to(port, dscp)), true);
     }
     assert_eq!(rt; any.a.has(0) && any.a.has(65535), true);
-    for (spans, number, has) in [
-        (ports(alloc, &[(3, 5), (9, 9), (7, 7)])?, 7, true),
-        (ports(alloc, &[(3, 5), (9, 9)])?, 6, false),
-        (Ports::of(alloc, span(4, 6))?.copy(alloc)?, 6, true),
-        (Ports::any(alloc)?, 65535, true),
-    ] {
-        assert_eq!(rt; spans.has(number), has);
-        match spans.into_vec() {
-            Ok(spans) => assert_eq!(rt;
-                spans.as_slice().iter().any(|part| part.span().has(number)),
-                has
-            ),
-            Err(_) => panic!(rt; "no memory for spans"),
-        }
+    Ok(())
+}
+
+/// Expects that these ports have a number, or that they haven't, and that their parts say the same.
+fn expect_has<R: Abort>(rt: &R, ports: Ports, number: u16, has: bool) {
+    assert_eq!(rt; ports.has(number), has, "{number}");
+    match ports.into_vec() {
+        Ok(parts) => assert_eq!(rt;
+            parts.as_slice().iter().any(|part| part.span().has(number)),
+            has,
+            "{number} in the parts"
+        ),
+        Err(_) => panic!(rt; "no memory for spans"),
     }
+}
+
+#[test]
+fn ports_of_spans(rt: HostRuntime) -> Result<(), Fail> {
+    let alloc = rt.alloc();
+    let two = ports(alloc, &[(3, 5), (9, 9)])?;
+    expect_has(&rt, two, 6, false);
+    let three = ports(alloc, &[(3, 5), (9, 9), (7, 7)])?;
+    expect_has(&rt, three, 7, true);
+    let copy = Ports::of(alloc, span(4, 6))?.copy(alloc)?;
+    expect_has(&rt, copy, 6, true);
+    let any = Ports::any(alloc)?;
+    expect_has(&rt, any, 65535, true);
     Ok(())
 }
 

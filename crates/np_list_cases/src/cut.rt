@@ -53,7 +53,7 @@ fn least_match<S: Regions>(store: &mut S, entry: &Entry) -> Result<Option<Header
 }
 
 #[test]
-fn regions_of_entries_and_lists(rt: HostRuntime) -> Result<(), Fail> {
+fn regions_with_the_flag(rt: HostRuntime) -> Result<(), Fail> {
     let alloc = rt.alloc();
     let mut store = BlockLists::new(alloc);
 
@@ -74,19 +74,33 @@ fn regions_of_entries_and_lists(rt: HostRuntime) -> Result<(), Fail> {
     let replies = List::from_vec(vec![in alloc; replies]?);
     let found = asked(alloc, &mut store, &replies, &header(6, 80, false, 0))?;
     assert_eq!(rt; found, (Some(header(6, 0, true, 0)), false));
+    Ok(())
+}
 
+#[test]
+fn regions_by_code_point(rt: HostRuntime) -> Result<(), Fail> {
+    let alloc = rt.alloc();
+    let mut store = BlockLists::new(alloc);
     let mut voice = Entry::any(alloc, false)?;
     voice.dscp = Span::only(46);
     assert_eq!(rt;
         least_match(&mut store, &voice)?,
         Some(header(0, 0, false, 46))
     );
-    let voice = List::from_vec(vec![in alloc; voice, Entry::any(alloc, true)?]?);
+    let mut list = List::new(alloc);
+    list.push(voice)?;
+    list.push(Entry::any(alloc, true)?)?;
     for (dscp, permitted) in [(45, true), (46, false), (47, true), (63, true), (64, false)] {
-        let (_, found) = asked(alloc, &mut store, &voice, &header(0, 0, false, dscp))?;
+        let (_, found) = asked(alloc, &mut store, &list, &header(0, 0, false, dscp))?;
         assert_eq!(rt; found, permitted, "{dscp}");
     }
+    Ok(())
+}
 
+#[test]
+fn earlier_entries_are_cut_out(rt: HostRuntime) -> Result<(), Fail> {
+    let alloc = rt.alloc();
+    let mut store = BlockLists::new(alloc);
     let mut web = List::new(alloc);
     web.push(tcp_entry(alloc, false, &[(0, 79), (81, 442)])?)?;
     web.push(tcp_entry(alloc, true, &[(0, 443)])?)?;

@@ -329,6 +329,10 @@ const APPLIED: [(&str, Way, Option<&str>); 5] = [
     ("e2", Way::Inward, None),
 ];
 
+/// Three lists, of which the second has an entry.
+const THREE_LISTS: &str =
+    "ip access-list extended L\naccess-list 7 permit any\nip access-list standard A";
+
 /// A header without ports and flag.
 fn header(src: u32, proto: u8) -> Header {
     Header {
@@ -431,29 +435,42 @@ fn is_named(config: &Config, place: usize, name: &str) -> bool {
     }
 }
 
+/// Expects that the lists have these names, in this order.
+fn expect_names<R: Abort>(rt: &R, config: &Config, names: &[&str]) {
+    assert_eq!(rt; config.lists.count(), names.len());
+    for (place, name) in names.iter().enumerate() {
+        assert_eq!(rt; is_named(config, place, name), true, "{name} at {place}");
+    }
+}
+
 #[test]
-fn lists_by_place_and_name(rt: HostRuntime) -> Result<(), Fail> {
-    let alloc = rt.alloc();
-    let lines = "ip access-list extended L\naccess-list 7 permit any\nip access-list standard A";
-    let mut config = read_after(alloc, lines)?;
-    assert_eq!(rt; config.lists.count(), 3);
-    for (place, name) in [(0, "L"), (1, "7"), (2, "A")] {
-        assert_eq!(rt; is_named(&config, place, name), true, "{name} in the text");
-    }
+fn lists_in_order(rt: HostRuntime) -> Result<(), Fail> {
+    let mut config = read_after(rt.alloc(), THREE_LISTS)?;
+    expect_names(&rt, &config, &["L", "7", "A"]);
     config.lists.sort_by_name()?;
-    for (place, name) in [(0, "7"), (1, "A"), (2, "L")] {
-        assert_eq!(rt; is_named(&config, place, name), true, "{name} in order");
-    }
-    let name = Name::of(alloc, b"7")?;
+    expect_names(&rt, &config, &["7", "A", "L"]);
+    Ok(())
+}
+
+#[test]
+fn a_list_is_taken_out(rt: HostRuntime) -> Result<(), Fail> {
+    let mut config = read_after(rt.alloc(), THREE_LISTS)?;
+    let name = Name::of(rt.alloc(), b"7")?;
     match config.lists.take(&name) {
         Some(list) => assert_eq!(rt; list.into_vec().len(), 1),
         None => panic!(rt; "no list 7"),
     }
-    assert_eq!(rt; config.lists.count(), 2);
+    expect_names(&rt, &config, &["L", "A"]);
     assert_eq!(rt; config.lists.take(&name).is_none(), true);
-    let empty = empty_config(alloc);
-    assert_eq!(rt; empty.lists.count() + empty.groups.count(Way::Inward), 0);
     Ok(())
+}
+
+#[test]
+fn nothing_is_in_an_empty_configuration(rt: HostRuntime) {
+    let empty = empty_config(rt.alloc());
+    assert_eq!(rt; empty.lists.count(), 0);
+    assert_eq!(rt; empty.groups.count(Way::Inward), 0);
+    assert_eq!(rt; empty.groups.count(Way::Outward), 0);
 }
 
 #[test]

@@ -6,7 +6,7 @@ use std::collections::{BTreeMap, HashMap};
 use std::test::Fail;
 
 #[test]
-fn texts_are_cut(rt: HostRuntime) -> Result<(), Fail> {
+fn texts_are_cut_into_lines(rt: HostRuntime) {
     for (text, count) in [
         ("", 0),
         ("\n", 1),
@@ -33,6 +33,10 @@ fn texts_are_cut(rt: HostRuntime) -> Result<(), Fail> {
         })
     );
     assert_eq!(rt; left.next(), None);
+}
+
+#[test]
+fn lines_are_cut_into_words(rt: HostRuntime) -> Result<(), Fail> {
     for blank in ["", " ", "\t \r"] {
         assert_eq!(rt; words(blank.as_bytes()).next(), None, "in {blank:?}");
     }
@@ -51,6 +55,11 @@ fn texts_are_cut(rt: HostRuntime) -> Result<(), Fail> {
         ]
         .as_slice()
     );
+    Ok(())
+}
+
+#[test]
+fn words_are_split_once(rt: HostRuntime) {
     for (bytes, parts) in [
         ("1-2-3", Some(("1", "2-3"))),
         ("-", Some(("", ""))),
@@ -65,11 +74,10 @@ fn texts_are_cut(rt: HostRuntime) -> Result<(), Fail> {
             (split, parts) => assert_eq!(rt; split.is_some(), parts.is_some(), "{bytes:?}"),
         }
     }
-    Ok(())
 }
 
 #[test]
-fn words_say_numbers_and_addresses(rt: HostRuntime) {
+fn words_say_numbers(rt: HostRuntime) {
     for (word, max, value) in [
         ("0", 0, Some(0)),
         ("4294967296", 4_294_967_295, None),
@@ -92,6 +100,10 @@ fn words_say_numbers_and_addresses(rt: HostRuntime) {
     ] {
         assert_eq!(rt; is_numeral(word.as_bytes()), value, "{word:?}");
     }
+}
+
+#[test]
+fn words_say_addresses(rt: HostRuntime) {
     for (word, value) in [
         ("10.1.2.3", Some(0x0a01_0203)),
         ("255.255.255.255", Some(u32::MAX)),

@@ -116,6 +116,12 @@ fn the_first_fault_counts(rt: HostRuntime) -> Result<(), Fail> {
         let read = canonical(rt.alloc(), &areas, line.as_bytes());
         assert_eq!(rt; read.err(), Some(PredError::Fault(fault)), "{line:?}");
     }
+    Ok(())
+}
+
+#[test]
+fn predicates_nest_up_to_a_limit(rt: HostRuntime) -> Result<(), Fail> {
+    let areas = lab(rt.alloc())?;
     let deepest = negations(rt.alloc(), NESTING_LIMIT - 1, "any")?;
     let out = canonical(rt.alloc(), &areas, deepest.as_bytes())?;
     assert_eq!(rt; out.as_slice(), deepest.as_bytes());
@@ -131,10 +137,9 @@ fn the_first_fault_counts(rt: HostRuntime) -> Result<(), Fail> {
     Ok(())
 }
 
-#[test]
-fn predicates_hold_by_their_fields(rt: HostRuntime) -> Result<(), Fail> {
-    let areas = lab(rt.alloc())?;
-    let web = Header {
+// A segment of TCP that lab sends to a web server, within an established connection.
+fn web() -> Header {
+    Header {
         src: 0x0a01_0203,
         dst: 0xc000_0201,
         proto: 6,
@@ -142,8 +147,12 @@ fn predicates_hold_by_their_fields(rt: HostRuntime) -> Result<(), Fail> {
         b: 443,
         est: true,
         dscp: 10,
-    };
-    let ping = Header {
+    }
+}
+
+// An echo request of ICMP that lab sends.
+fn ping() -> Header {
+    Header {
         src: 0xc0a8_0107,
         dst: 0xc000_0201,
         proto: 1,
@@ -151,7 +160,14 @@ fn predicates_hold_by_their_fields(rt: HostRuntime) -> Result<(), Fail> {
         b: 0,
         est: false,
         dscp: 46,
-    };
+    }
+}
+
+#[test]
+fn predicates_hold_by_their_fields(rt: HostRuntime) -> Result<(), Fail> {
+    let areas = lab(rt.alloc())?;
+    let web = web();
+    let ping = ping();
     for (line, of_web, of_ping) in [
         ("any", true, true),
         ("nothing", false, false),
@@ -179,8 +195,12 @@ fn predicates_hold_by_their_fields(rt: HostRuntime) -> Result<(), Fail> {
         assert_eq!(rt; pred.holds(&web), of_web, "{line:?} of {web:?}");
         assert_eq!(rt; pred.holds(&ping), of_ping, "{line:?} of {ping:?}");
     }
+    Ok(())
+}
+
+#[test]
+fn spans_of_dscp_have_their_values(rt: HostRuntime) {
     let high = DscpSpan { low: 8, high: 63 };
     assert!(rt; high.has(8) && high.has(63) && !high.has(7));
     assert_eq!(rt; (high.span().low, high.span().high), (8, 63));
-    Ok(())
 }

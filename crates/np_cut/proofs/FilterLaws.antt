@@ -4,7 +4,7 @@ use Rattle.std.proofs.lemmas.List.Elements.{All-head, All-tail}
 use Rattle.std.proofs.lemmas.List.{map-append}
 use Rattle.np_space.specs.declared.headers.Header.{Header}
 use Rattle.np_region.specs.Keeping.{KeepsRegions, EachFits}
-use Rattle.np_region.proofs.KeepingLemmas.{keeps_itself, keeps_chained, each_fits_kept, each_fits_more}
+use Rattle.np_region.proofs.KeepingLemmas.{keeps_chained, each_fits_kept, each_fits_more}
 use Rattle.np_region.specs.Keeping.{tests_of}
 use Rattle.np_cut.specs.FilterCuts.{AreCuts}
 
@@ -13,14 +13,6 @@ module _ {S R : Type 0} (fits : S → R → Type 0) (has : S → R → Header �
   pub tests_kept : (s t : S) (cuts : List R) → KeepsRegions fits has s t → EachFits fits s cuts → tests_of has t cuts ≡ tests_of has s cuts
   tests_kept s t [] k each = refl
   tests_kept s t (x ∷ xs) k each = λ i. (λ h. k.same x (All-head (fits s) x xs each) h i) ∷ tests_kept s t xs k (All-tail (fits s) x xs each) i
-
-  -- before the first one
-  pub cuts_before : (s : S) (cuts : List R) → EachFits fits s cuts → AreCuts fits has (tests_of has s cuts ++ []) s s cuts
-  cuts_before s cuts each = record { kept = keeps_itself fits has s; fit = each; exact = sym (end (tests_of has s cuts)) }
-    where
-      end : (xs : List (Header → Bool)) → xs ++ [] ≡ xs
-      end [] = refl
-      end (x ∷ xs) = ap (λ t. x ∷ t) (end xs)
 
   -- one more region
   pub cuts_more : {X : Type 0} (test : X → Header → Bool) (before : List (Header → Bool)) (old s t : S) (xs ys : List X) (x : X) (cuts : List R) (cut : R) →

@@ -5,6 +5,7 @@ use Rattle.std.specs.Str.{bytes_eq}
 use Rattle.std.specs.Option.{option_map, option_and_then}
 use Rattle.np_text.specs.Lines.{lines_of}
 use Rattle.np_text.specs.Words.{words_of}
+use Rattle.np_lines.specs.Skipping.{is_text_byte}
 use Rattle.np_net.specs.Names.{is_name, is_interface_name}
 use Rattle.np_top.specs.declared.network.Device.{Device}
 use Rattle.np_top.specs.declared.network.Interface.{Interface}
@@ -12,7 +13,7 @@ use Rattle.np_top.specs.declared.network.Goal.{Goal}
 use Rattle.np_top.specs.declared.network.Network.{Network}
 use Rattle.np_top.specs.Limits.{declaration_limit, interface_limit, has_room}
 use Rattle.np_top.specs.Steps.{after_each}
-use Rattle.np_top.specs.Tokens.{is_text_byte, are_addresses, predicate_of}
+use Rattle.np_top.specs.Tokens.{are_addresses, predicate_of}
 
 -- the position of an area among those declared
 abbrev pub area_named : Network → List ℕ → Option ℕ

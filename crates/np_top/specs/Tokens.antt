@@ -1,5 +1,5 @@
 -- Words and the names that they may be.
-use Rattle.std.specs.Prelude.{ℕ, Bool, true, ◌&&◌, ◌||◌, ◌==◌, nat_le, List, [], ◌∷◌, Option, Some, None, is_some, codes, if◌then◌else◌, map}
+use Rattle.std.specs.Prelude.{ℕ, Bool, true, ◌||◌, ◌==◌, List, [], ◌∷◌, Option, Some, None, is_some, codes, if◌then◌else◌, map}
 use Rattle.std.specs.List.{list_all, slice_split}
 use Rattle.std.specs.Str.{bytes_eq}
 use Rattle.std.specs.Option.{option_map}
@@ -12,10 +12,6 @@ use Rattle.np_top.specs.declared.network.Protocols.TheVariants.{Any, One}
 -- the words, each as the bytes that it has
 abbrev pub texts : List (Bor (List ℕ)) → List (List ℕ)
 texts words = map (λ word. word.now) words
-
--- a byte of a network's text: a printable character, a tab or a carriage return
-abbrev pub is_text_byte : ℕ → Bool
-is_text_byte b = (nat_le 32 b && nat_le b 126) || b == 9 || b == 13
 
 -- `none`, or prefixes joined by commas
 abbrev pub are_addresses : List ℕ → Bool

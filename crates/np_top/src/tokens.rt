@@ -24,19 +24,6 @@ pub fn bytes_of_words(alloc: Global, line: &[u8]) -> Result<Vec<&[u8]>, AllocErr
     Ok(list)
 }
 
-fn is_text_byte(byte: u8) -> bool
-    ensures { result ≡ tokens.is_text_byte byte }
-{
-    (32 <= byte && byte <= 126) || byte == b'\t' || byte == b'\r'
-}
-
-/// Whether each byte of a line may stand in a network's text.
-pub fn is_text(line: &[u8]) -> bool
-    ensures { result ≡ list_all tokens.is_text_byte line.now }
-{
-    line.iter().all(|byte| is_text_byte(*byte))
-}
-
 /// Whether a word is prefixes joined by commas.
 fn are_prefixes(word: &[u8]) -> bool
     ensures { result ≡ list_all (λ part. is_some (prefix_of part)) (slice_split (λ b. b == 44) word.now) }

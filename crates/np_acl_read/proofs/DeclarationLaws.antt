@@ -20,7 +20,7 @@ use Rattle.np_acl_read.specs.declared.statement.NumberedEntry.{NumberedEntry}
 use Rattle.np_acl_read.specs.declared.statement.Statement.{Statement}
 use Rattle.np_acl_read.specs.declared.statement.Statement.TheVariants as statement
 use Rattle.np_acl_read.specs.Adding.{added, entries_named, with_entry_at, with_list}
-use Rattle.np_acl_read.specs.Declaring.{declared_by, section_after, section_of, list_in, with_name, names_of, entry_in, entry_of_list, with_entry, in_order, entries_of, lists_of, group_in, with_list_at, groups_of}
+use Rattle.np_acl_read.specs.Declaring.{declared_by_config, section_after, section_of, list_in, with_name, names_of, entry_in, entry_of_list, with_entry, in_order, entries_of, lists_of, group_in, with_list_at, groups_of}
 use Rattle.np_acl_read.specs.Groups.{no_groups, with_group}
 
 -- ---- one more item
@@ -226,8 +226,8 @@ groups_kept : (before : List Statement) (s : Statement) → group_in Inward s �
 groups_kept before s inward outward = rw (none_more (group_in Inward) before s inward, none_more (group_in Outward) before s outward) refl
 
 -- one statement more declares what it adds
-pub declared_one_more : (before : List Statement) (s : Statement) → declared_by (before ++ s ∷ []) ≡ added (declared_by before) s
-unfolding declared_by
+pub declared_one_more : (before : List Statement) (s : Statement) → declared_by_config (before ++ s ∷ []) ≡ added (declared_by_config before) s
+unfolding declared_by_config
 declared_one_more before (statement.Interface name) =
     rw (
       section_more before (statement.Interface name),
@@ -281,6 +281,6 @@ declared_one_more before statement.Other =
     ) refl
 
 -- no statements declare nothing
-pub declared_first : declared_by [] ≡ record { section = sections.Closed; lists = []; groups = no_groups; entries = 0 }
-unfolding declared_by
+pub declared_first : declared_by_config [] ≡ record { section = sections.Closed; lists = []; groups = no_groups; entries = 0 }
+unfolding declared_by_config
 declared_first = refl

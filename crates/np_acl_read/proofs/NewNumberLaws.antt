@@ -33,7 +33,7 @@ use Rattle.np_acl_read.specs.declared.statement.Statement.{Statement}
 use Rattle.np_acl_read.specs.declared.statement.Statement.TheVariants as statement
 use Rattle.np_acl_read.specs.Adding.{entry_limit}
 use Rattle.np_acl_read.specs.Counting.{last_with}
-use Rattle.np_acl_read.specs.Declaring.{declared_by, declared_in, entries_of, entry_in, entry_of_list, lists_of, names_of}
+use Rattle.np_acl_read.specs.Declaring.{declared_by_config, declared_in, entries_of, entry_in, entry_of_list, lists_of, names_of}
 use Rattle.np_acl_read.specs.Judging.{access_list, acted, begins_list_line, entry_or_remark, group_at, group_line, interface_line, ip_line, is_negated, keyword_says, line_of_list, line_says, line_with, list_entry, list_line, list_number, list_statement, next_number, no_line, number_limit, numbered, numbers_in, open_list, other_line, said_or_other, section_entry, section_line, section_statement, sequence_number, unnumbered, unused}
 use Rattle.np_acl_read.specs.Words.{action_of, way_of}
 use Rattle.np_acl_read.proofs.CountingLaws.{entry_of_number}
@@ -319,8 +319,8 @@ apart_kept : (before : List Statement) (s : Statement) → entry_in s ≡ None �
 apart_kept before s none apart name = rw (none_more entry_in before s none) (apart name)
 
 -- one with an entry of a new number keeps them distinct
-apart_more : (before : List Statement) (s : Statement) (entry : NumberedEntry) → entry_in s ≡ Some entry → IsNewEntry (declared_by before) entry → AreApart before → AreApart (before ++ s ∷ [])
-unfolding declared_by
+apart_more : (before : List Statement) (s : Statement) (entry : NumberedEntry) → entry_in s ≡ Some entry → IsNewEntry (declared_by_config before) entry → AreApart before → AreApart (before ++ s ∷ [])
+unfolding declared_by_config
 apart_more before s entry is new apart name = rw (one_more entry_in before s entry is) (by (bytes_eq name entry.list) refl) where
   by : (b : Bool) → bytes_eq name entry.list ≡ b → IsDistinct nat_eq (keys_of (filter_map (entry_of_list name) (filter_map entry_in before ++ entry ∷ [])))
   by false away = rw (none_more (entry_of_list name) (filter_map entry_in before) entry (rw away refl)) (apart name)
@@ -332,7 +332,7 @@ apart_more before s entry is new apart name = rw (one_more entry_in before s ent
         keys_more (declared_in before name) (entry.number, entry.entry),
       ) (IsDistinct-push nat_eq_equiv (keys_of (declared_in before name)) entry.number (apart name) fresh)
 
-apart_step : (before : List Statement) (s : Statement) → IsNewIn (declared_by before) s → AreApart before → AreApart (before ++ s ∷ [])
+apart_step : (before : List Statement) (s : Statement) → IsNewIn (declared_by_config before) s → AreApart before → AreApart (before ++ s ∷ [])
 apart_step before (statement.Interface name) new apart = apart_kept before (statement.Interface name) refl apart
 apart_step before (statement.Section list kind) new apart = apart_kept before (statement.Section list kind) refl apart
 apart_step before (statement.Remark list) new apart = apart_kept before (statement.Remark list) refl apart
@@ -348,17 +348,17 @@ abbrev Read : (List Statement → Type 0) → Judged (LineFault ConfigWhy) (List
 Read P (Ok statements) = P statements
 Read P (Err fault) = Unit {0}
 
-line_apart : (before : List Statement) (number : ℕ) (j : Judged ConfigWhy (Option Statement)) (lines : List (List ℕ)) → Holds (IfNewIn (declared_by before)) j → AreApart before
-    → ((more : List Statement) → AreApart more → Read AreApart (statements_from (λ earlier. line_says (declared_by earlier)) more (number + 1) lines))
-    → Read AreApart (at_line number j >>= λ said. statements_from (λ earlier. line_says (declared_by earlier)) (and_one before said) (number + 1) lines)
+line_apart : (before : List Statement) (number : ℕ) (j : Judged ConfigWhy (Option Statement)) (lines : List (List ℕ)) → Holds (IfNewIn (declared_by_config before)) j → AreApart before
+    → ((more : List Statement) → AreApart more → Read AreApart (statements_from (λ earlier. line_says (declared_by_config earlier)) more (number + 1) lines))
+    → Read AreApart (at_line number j >>= λ said. statements_from (λ earlier. line_says (declared_by_config earlier)) (and_one before said) (number + 1) lines)
 line_apart before number (Ok None) lines new apart next = next before apart
 line_apart before number (Ok (Some s)) lines new apart next = next (before ++ s ∷ []) (apart_step before s new apart)
 line_apart before number (Err fault) lines new apart next = tt
 
-apart_from : (before : List Statement) (number : ℕ) (lines : List (List ℕ)) → AreApart before → Read AreApart (statements_from (λ earlier. line_says (declared_by earlier)) before number lines)
+apart_from : (before : List Statement) (number : ℕ) (lines : List (List ℕ)) → AreApart before → Read AreApart (statements_from (λ earlier. line_says (declared_by_config earlier)) before number lines)
 apart_from before number [] apart = apart
 apart_from before number (line ∷ lines) apart =
-    line_apart before number (line_says (declared_by before) line) lines (line_new (declared_by before) line) apart (λ more h. apart_from more (number + 1) lines h)
+    line_apart before number (line_says (declared_by_config before) line) lines (line_new (declared_by_config before) line) apart (λ more h. apart_from more (number + 1) lines h)
 
 none_apart : AreApart []
 unfolding IsDistinct
@@ -368,5 +368,5 @@ read_is : (P : List Statement → Type 0) (j : Judged (LineFault ConfigWhy) (Lis
 read_is P j statements is holds = let Q : Judged (LineFault ConfigWhy) (List Statement) → Type 0 = λ k. Read P k in subst Q is holds
 
 -- the statements of a text give a list no number twice
-pub numbers_apart : (text : List ℕ) (statements : List Statement) → text_says (λ before. line_says (declared_by before)) text ≡ Ok statements → (name : List ℕ) → IsDistinct nat_eq (keys_of (declared_in statements name))
-numbers_apart text statements says = read_is AreApart (text_says (λ before. line_says (declared_by before)) text) statements says (apart_from [] 1 (lines_of text) none_apart)
+pub numbers_apart : (text : List ℕ) (statements : List Statement) → text_says (λ before. line_says (declared_by_config before)) text ≡ Ok statements → (name : List ℕ) → IsDistinct nat_eq (keys_of (declared_in statements name))
+numbers_apart text statements says = read_is AreApart (text_says (λ before. line_says (declared_by_config before)) text) statements says (apart_from [] 1 (lines_of text) none_apart)

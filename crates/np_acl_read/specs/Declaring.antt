@@ -130,9 +130,9 @@ groups_of statements = record { inward = applied_by statements Inward; outward =
 
 -- ---- the whole
 
--- what statements declare
-unfoldable pub declared_by : List Statement → Declared
-declared_by statements = record {
+-- what the statements of a configuration declare
+unfoldable pub declared_by_config : List Statement → Declared
+declared_by_config statements = record {
   section = section_of statements;
   lists = lists_of statements;
   groups = groups_of statements;

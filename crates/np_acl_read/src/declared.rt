@@ -2,7 +2,7 @@
 
 ghost use Rattle.std.specs.Prelude.{◌≡◌, ◌<◌, [], OnOk};
 ghost use Rattle.np_acl_read.specs.Adding.{Fits, added, entry_limit, with_numbered};
-ghost use Rattle.np_acl_read.specs.Declaring.{closed_list, declared_by};
+ghost use Rattle.np_acl_read.specs.Declaring.{closed_list, declared_by_config};
 
 use crate::groups::Groups;
 use crate::numbered::NumberedLists;
@@ -33,7 +33,7 @@ impl Declared {
     /// Before any line is read.
     #[tactic(auto, using(crate::proofs::DeclarationLaws::declared_first))]
     pub fn new(alloc: Global) -> Declared
-        ensures { result ≡ declared_by [] }
+        ensures { result ≡ declared_by_config [] }
     {
         Declared {
             section: Section::Closed,

@@ -23,7 +23,7 @@ ghost use Rattle.np_acl_read.specs.Adding.{entry_limit};
 ghost use Rattle.np_acl_read.specs.Words.{action_word};
 ghost use Rattle.np_acl_read.specs.declared.statement.Statement.{Statement};
 ghost use Rattle.np_acl_read.specs.Counting.{last_with};
-ghost use Rattle.np_acl_read.specs.Declaring.{applied_by, config_with, declared_by, declared_in, entries_of, groups_in};
+ghost use Rattle.np_acl_read.specs.Declaring.{applied_by, config_with, declared_by_config, declared_in, entries_of, groups_in};
 ghost use Rattle.np_acl_read.specs.Judging.{line_says, next_number, numbers_in};
 ghost use Rattle.np_acl_read.specs.Reading.{config_of};
 
@@ -33,7 +33,7 @@ ghost use Rattle.np_acl_read.specs.Reading.{config_of};
 pub fn entries_are_those_declared()
     ensures ascend { (statements : List Statement) (name : List ℕ) → IsStrictlySortedBy nat_cmp (keys_of (entries_of statements name)) }
     ensures declared { (statements : List Statement) (name : List ℕ) (number : ℕ) → lookup (nat_eq number) (entries_of statements name) ≡ last_with (nat_eq number) (declared_in statements name) }
-    ensures once { (text : List ℕ) (statements : List Statement) → text_says (λ before. line_says (declared_by before)) text ≡ Ok statements → (name : List ℕ) → IsDistinct nat_eq (keys_of (declared_in statements name)) }
+    ensures once { (text : List ℕ) (statements : List Statement) → text_says (λ before. line_says (declared_by_config before)) text ≡ Ok statements → (name : List ℕ) → IsDistinct nat_eq (keys_of (declared_in statements name)) }
 {}
 
 /// The list that counts at an interface in one way is that of the last line that applies one there.
@@ -46,8 +46,8 @@ pub fn the_last_group_counts()
 /// words, the words of each joined by one space.
 #[tactic(auto, using(crate::proofs::LineReading::lines_read, crate::proofs::LineReading::joined_lines_read))]
 pub fn lines_declare_their_statements()
-    ensures text { (text : List ℕ) (saids : List (Option Statement)) → EachSays (λ before. line_says (declared_by before)) [] (lines_of text) saids → config_of text ≡ Ok (config_with (declared_by (statements_said saids))) }
-    ensures joined { (lines : List (Bool × List (List ℕ))) (saids : List (Option Statement)) → AreLinesOfWords lines → EachSays (λ before. line_says (declared_by before)) [] (map (λ line. joined_line line.0 line.1) lines) saids → config_of (joined_text lines) ≡ Ok (config_with (declared_by (statements_said saids))) }
+    ensures text { (text : List ℕ) (saids : List (Option Statement)) → EachSays (λ before. line_says (declared_by_config before)) [] (lines_of text) saids → config_of text ≡ Ok (config_with (declared_by_config (statements_said saids))) }
+    ensures joined { (lines : List (Bool × List (List ℕ))) (saids : List (Option Statement)) → AreLinesOfWords lines → EachSays (λ before. line_says (declared_by_config before)) [] (map (λ line. joined_line line.0 line.1) lines) saids → config_of (joined_text lines) ≡ Ok (config_with (declared_by_config (statements_said saids))) }
 {}
 
 /// In the section of an extended list a line of `permit` or `deny` and the canonical words of an

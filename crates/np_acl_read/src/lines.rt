@@ -4,9 +4,9 @@ ghost use Rattle.std.specs.Prelude.{◌≡◌, ◌<◌, ◌∷◌, IfOk, IfErr, 
 ghost use Rattle.std.specs.Option.{option_copied};
 ghost use Rattle.std.specs.Fmt.{decimal};
 ghost use Rattle.np_acl_read.specs.Adding.{Fits, NeedsNoRoom, added, entry_limit};
-ghost use Rattle.np_lines.specs.Answers.{Gives, texts};
+ghost use Rattle.np_lines.specs.Answers.{Gives, IsFaultOf, texts};
 ghost use Rattle.np_lines.specs.Declaring.{after_line};
-ghost use Rattle.np_acl_read.specs.Answers.{GivesIf, IsFaultOf};
+ghost use Rattle.np_acl_read.specs.Answers.{GivesIf};
 ghost use Rattle.np_acl_read.specs.Judging as judging;
 ghost use Rattle.np_acl_read.specs.Judging.{line_says};
 

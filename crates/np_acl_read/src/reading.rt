@@ -1,7 +1,7 @@
 //! A configuration from its text.
 
 ghost use Rattle.std.specs.Prelude.{◌≡◌, Ok, IfOk, IfErr};
-ghost use Rattle.np_acl_read.specs.Answers.{IsFaultOf};
+ghost use Rattle.np_lines.specs.Answers.{IsFaultOf};
 ghost use Rattle.np_acl_read.specs.Declaring.{config_with};
 ghost use Rattle.np_acl_read.specs.Reading.{config_of};
 

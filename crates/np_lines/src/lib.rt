@@ -6,9 +6,11 @@ mod fault;
 pub mod laws;
 mod line_error;
 mod skipping;
+mod text_error;
 mod words;
 
 pub use fault::LineFault;
 pub use line_error::LineError;
 pub use skipping::{first_word, is_text, statement_words};
+pub use text_error::TextError;
 pub use words::{ended, next_word, within};

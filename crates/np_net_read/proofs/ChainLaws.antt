@@ -11,12 +11,13 @@ use Rattle.np_net_read.specs.declared.fault.NetWhy.{NetWhy}
 use Rattle.np_net_read.specs.declared.declared.Declared.{Declared}
 use Rattle.np_net_read.specs.declared.statement.Statement.{Statement}
 use Rattle.np_net_read.specs.Canonical.{text_of_lines}
-use Rattle.np_net_read.specs.Declaring.{declared_by, network_of}
+use Rattle.np_net_read.specs.Declaring.{declared_by_network, network_of}
 use Rattle.np_net_read.specs.Fitting.{added}
 use Rattle.np_net_read.specs.Judging.{words_say, line_says}
 use Rattle.np_net_read.specs.Reading.{net_of}
 use Rattle.np_net_read.proofs.DeclarationLaws.{declared_one_more}
-use Rattle.np_net_read.proofs.PlainWords.{ArePlain, plain_words, plain_line}
+use Rattle.np_net_read.specs.Words.{ArePlainWords}
+use Rattle.np_net_read.proofs.PlainWords.{plain_words, plain_line}
 
 abbrev pub Lines : Type 0
 Lines = List (List (List ℕ))
@@ -32,7 +33,7 @@ then_reads declared middle after (x ∷ xs) ys h k = (h.0, h.1, then_reads (adde
 
 -- each word of each line is a plain one
 abbrev pub ArePlainLines : Lines → Type 0
-ArePlainLines lines = AllByRecursion (λ words. ArePlain words) lines
+ArePlainLines lines = AllByRecursion (λ words. ArePlainWords words) lines
 
 pub plain_lines_append : (xs ys : Lines) → ArePlainLines xs → ArePlainLines ys → ArePlainLines (xs ++ ys)
 plain_lines_append [] ys h k = k
@@ -40,15 +41,15 @@ plain_lines_append (x ∷ xs) ys h k = (h.0, plain_lines_append xs ys h.1 k)
 
 -- ---- one line, and lines
 
-line_reads : (declared : Declared) (words : List (List ℕ)) (said : Judged NetWhy (Option Statement)) → ArePlain words → words_say declared words ≡ said → line_says declared (joined_line false words) ≡ said
+line_reads : (declared : Declared) (words : List (List ℕ)) (said : Judged NetWhy (Option Statement)) → ArePlainWords words → words_say declared words ≡ said → line_says declared (joined_line false words) ≡ said
 unfolding line_says
 line_reads declared words said plain h = rw (plain_line words plain, words_of-joined_line false words (plain_words words plain)) h
 
-statements_read : (before : List Statement) (n : ℕ) (lines : Lines) (after : Declared) → ArePlainLines lines → ReadsInto (declared_by before) lines after → (final : List Statement) × (statements_from (λ earlier. line_says (declared_by earlier)) before n (map (joined_line false) lines) ≡ Ok final) × (declared_by final ≡ after)
+statements_read : (before : List Statement) (n : ℕ) (lines : Lines) (after : Declared) → ArePlainLines lines → ReadsInto (declared_by_network before) lines after → (final : List Statement) × (statements_from (λ earlier. line_says (declared_by_network earlier)) before n (map (joined_line false) lines) ≡ Ok final) × (declared_by_network final ≡ after)
 statements_read before n [] after plain h = (before, refl, h)
 statements_read before n (words ∷ lines) after plain h =
     let rest = statements_read (before ++ h.0 ∷ []) (n + 1) lines after plain.1 (subst (λ d. ReadsInto d lines after) (sym (declared_one_more before h.0)) h.2) in
-    (rest.0, rw (line_reads (declared_by before) words (Ok (Some h.0)) plain.0 h.1) rest.1, rest.2)
+    (rest.0, rw (line_reads (declared_by_network before) words (Ok (Some h.0)) plain.0 h.1) rest.1, rest.2)
 
 -- ---- a text of such lines
 
@@ -72,7 +73,7 @@ pub words_of_plain : (lines : Lines) → ArePlainLines lines → map words_of (l
 words_of_plain lines plain = words_of-joined_text (map (λ words. (false, words)) lines) (all_plain lines plain) ∙ words_each lines
 
 -- the network that it declares
-pub net_of_plain : (lines : Lines) (after : Declared) → ArePlainLines lines → ReadsInto (declared_by []) lines after → net_of (text_of_lines lines) ≡ Ok (network_of after)
+pub net_of_plain : (lines : Lines) (after : Declared) → ArePlainLines lines → ReadsInto (declared_by_network []) lines after → net_of (text_of_lines lines) ≡ Ok (network_of after)
 net_of_plain lines after plain h =
     let read = statements_read [] 1 lines after plain h in
     rw (lines_of_plain lines plain, read.1, read.2) refl

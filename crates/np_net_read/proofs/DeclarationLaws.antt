@@ -4,7 +4,7 @@ use Rattle.std.proofs.lemmas.List.Elements.{filter_map-append}
 use Rattle.std.specs.List.{filter_map}
 use Rattle.np_lines.specs.Declaring.{GrowsBy}
 use Rattle.np_net_read.specs.declared.statement.Statement.TheVariants as statement
-use Rattle.np_net_read.specs.Declaring.{declared_by, depth_in, area_in, device_in, interface_in, slot_in, goal_in, last_or}
+use Rattle.np_net_read.specs.Declaring.{declared_by_network, depth_in, area_in, device_in, interface_in, slot_in, goal_in, last_or}
 use Rattle.np_net_read.specs.Fitting.{added}
 
 -- items that give nothing leave what the others give
@@ -20,8 +20,8 @@ last_more before [] n = refl
 last_more before (m ∷ ns) n = last_more (Some m) ns n
 
 -- one statement more declares what it adds to what the others declare
-pub declared_one_more : GrowsBy declared_by added
-unfolding declared_by
+pub declared_one_more : GrowsBy declared_by_network added
+unfolding declared_by_network
 declared_one_more before (statement.Depth depth) =
     rw (
       none_more area_in before (statement.Depth depth) refl,

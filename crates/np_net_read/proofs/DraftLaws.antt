@@ -10,15 +10,15 @@ use Rattle.np_net.specs.declared.filtering.Device.{Device}
 use Rattle.np_net.specs.declared.filtering.Interface.{Interface}
 use Rattle.np_net_read.specs.declared.draft.Draft.{Draft}
 use Rattle.np_net_read.specs.declared.statement.Statement.TheVariants as statement
-use Rattle.np_net_read.specs.Declaring.{declared_by}
+use Rattle.np_net_read.specs.Declaring.{declared_by_network}
 use Rattle.np_net_read.specs.Drafting.{IsDraft}
 use Rattle.np_net_read.specs.Fitting.{IsSound, added, IsNewArea, IsNewDevice, IsNewInterface}
 use Rattle.np_net.proofs.ListLaws.{lookup_none}
 use Rattle.np_net_read.proofs.SoundLaws.{sound_more}
 
 -- what is declared before any line makes a network
-pub sound_first : IsSound (declared_by [])
-unfolding declared_by
+pub sound_first : IsSound (declared_by_network [])
+unfolding declared_by_network
 sound_first = record {
   area_room = omega arith;
   device_room = omega arith;
@@ -36,8 +36,8 @@ sound_first = record {
 }
 
 -- the first draft
-pub draft_first : (d : Draft) → d.declared ≡ declared_by [] → d.area_names ≡ [] → d.sources ≡ [] → d.device_names ≡ [] → d.places ≡ [] → d.freed.keys ≡ [] → IsDraft d
-unfolding declared_by
+pub draft_first : (d : Draft) → d.declared ≡ declared_by_network [] → d.area_names ≡ [] → d.sources ≡ [] → d.device_names ≡ [] → d.places ≡ [] → d.freed.keys ≡ [] → IsDraft d
+unfolding declared_by_network
 draft_first d declared areas sources devices places freed = record {
   areas = areas ∙ sym (ap (λ d. area_names d.areas) declared);
   sources = sources ∙ sym (ap (λ d. source_list d.areas) declared);

@@ -27,7 +27,8 @@ use Rattle.np_pred.proofs.PatternLaws.{addresses_text-some}
 use Rattle.np_pred.proofs.TextBackLaws.{BeginsWithDigit, decimal_begins, begins_before, both_true}
 use Rattle.np_pred.proofs.ReadBackLaws.{addresses_begin}
 use Rattle.np_net.specs.Names.{is_file_byte, is_file_name}
-use Rattle.np_net_read.proofs.PlainWords.{ArePlain, plain_append}
+use Rattle.np_net_read.specs.Words.{ArePlainWords}
+use Rattle.np_net_read.proofs.PlainWords.{plain_append}
 
 abbrev Words : Type 0
 Words = List (List ℕ)
@@ -105,11 +106,11 @@ dscp_plain s =
     let ordered : s.low ≤ s.high = s.ordered in
     bounds_plain s.low s.high (omega arith) (omega arith)
 
-either_are_plain : (b : Bool) (xs ys : Words) → ArePlain xs → ArePlain ys → ArePlain (cond b xs ys)
+either_are_plain : (b : Bool) (xs ys : Words) → ArePlainWords xs → ArePlainWords ys → ArePlainWords (cond b xs ys)
 either_are_plain true xs ys h k = h
 either_are_plain false xs ys h k = k
 
-protocol_plain : (n : ℕ) → n < 256 → ArePlain (protocol_words n)
+protocol_plain : (n : ℕ) → n < 256 → ArePlainWords (protocol_words n)
 unfolding protocol_words
 protocol_plain n small =
     either_are_plain (n == 1) (codes "icmp" ∷ []) _ (refl, tt)
@@ -119,7 +120,7 @@ protocol_plain n small =
 -- ---- predicates
 
 abbrev HasPlain : Pred → Type 0
-HasPlain p = has_octets p ≡ true → ArePlain (pred_words p)
+HasPlain p = has_octets p ≡ true → ArePlainWords (pred_words p)
 
 plain_inductive : IsInductive HasPlain
 plain_inductive = record {
@@ -143,5 +144,5 @@ plain_inductive = record {
       rw (fold-Or Words words_step p q) (refl, plain_append (pred_words p) (pred_words q) (k each.0) (l each.1));
 }
 
-pub pred_plain : (p : Pred) → has_octets p ≡ true → ArePlain (pred_words p)
+pub pred_plain : (p : Pred) → has_octets p ≡ true → ArePlainWords (pred_words p)
 pred_plain = by_induction HasPlain plain_inductive

@@ -14,15 +14,16 @@ use Rattle.np_net.specs.declared.filtering.Goal.{Goal}
 use Rattle.np_net_read.specs.Canonical.{trusted_words, config_words, area_words, device_words, interface_words, slot_line, free_lines, goal_words, only_word, filtering_lines}
 use Rattle.np_net_read.proofs.ChainLaws.{ArePlainLines, plain_lines_append}
 use Rattle.np_net_read.proofs.PlainForms.{addresses_plain, decimal_plain, pred_plain}
-use Rattle.np_net_read.proofs.PlainWords.{ArePlain, plain_append, name_plain, interface_name_plain}
+use Rattle.np_net_read.specs.Words.{ArePlainWords}
+use Rattle.np_net_read.proofs.PlainWords.{plain_append, name_plain, interface_name_plain}
 
 -- ---- words
 
-trusted_plain : (trusted : Bool) → ArePlain (trusted_words trusted)
+trusted_plain : (trusted : Bool) → ArePlainWords (trusted_words trusted)
 trusted_plain true = (refl, tt)
 trusted_plain false = tt
 
-config_plain : (config : Option (List ℕ)) → IfSome config (λ file. is_file_name file ≡ true) → ArePlain (config_words config)
+config_plain : (config : Option (List ℕ)) → IfSome config (λ file. is_file_name file ≡ true) → ArePlainWords (config_words config)
 config_plain None h = tt
 config_plain (Some file) h = (refl, (h, tt))
 

@@ -11,7 +11,7 @@ use Rattle.np_net.specs.declared.associations.Table.{Table}
 use Rattle.np_net_read.specs.declared.declared.Declared.{Declared}
 use Rattle.np_net_read.specs.declared.statement.Statement.TheVariants as statement
 use Rattle.np_net_read.specs.Canonical.{net_lines, net_text, filtering_lines, ipsec_lines, rule_lines, area_words, device_words, interface_words, free_lines, goal_words}
-use Rattle.np_net_read.specs.Declaring.{declared_by, network_of, no_rules}
+use Rattle.np_net_read.specs.Declaring.{declared_by_network, network_of, no_rules}
 use Rattle.np_net_read.specs.Filtering.{HasFilteringAlone}
 use Rattle.np_net_read.specs.Reading.{net_of}
 use Rattle.np_net_read.proofs.ChainLaws.{ArePlainLines, plain_lines_append, ReadsInto, then_reads, net_of_plain, words_of_plain}
@@ -59,18 +59,18 @@ module _ (net : Plan) (is : IsNetwork net) where
   begun : Declared
   begun = record { areas = []; devices = []; interfaces = []; freed = []; goals = []; depth = Some net.depth }
 
-  filtering_read : ReadsInto (declared_by []) (filtering_lines net) whole
-  unfolding declared_by whole begun
+  filtering_read : ReadsInto (declared_by_network []) (filtering_lines net) whole
+  unfolding declared_by_network whole begun
   filtering_read =
       let goals = goals_read net is (free_slots 0 net.free) [] net.goals is.goals (room net.goals is.limits.goals) in
       let free = then_reads _ _ whole (free_lines net net.interfaces net.free) (map (goal_words net) net.goals) (free_read net is) goals in
       let interfaces = then_reads _ _ whole (map (interface_words net) net.interfaces) _ (interfaces_read net is [] net.interfaces is.names.interfaces is.interfaces (room net.interfaces is.limits.interfaces)) free in
       let devices = then_reads (record begun { areas = net.areas }) _ whole (map device_words net.devices) _ (devices_read (record begun { areas = net.areas }) net.devices is.names.devices is.devices (room net.devices is.limits.devices)) interfaces in
       let areas = then_reads begun _ whole (map area_words net.areas) _ (areas_read begun net.areas is.names.areas is.areas (room net.areas is.limits.areas)) devices in
-      (statement.Depth net.depth, depth_read (declared_by []) net.depth record { new = refl; shallow = is.shallow; deep = is.deep }, areas)
+      (statement.Depth net.depth, depth_read (declared_by_network []) net.depth record { new = refl; shallow = is.shallow; deep = is.deep }, areas)
 
-  lines_read : HasFilteringAlone net → ReadsInto (declared_by []) (net_lines net) whole
-  lines_read alone = then_reads (declared_by []) whole whole (filtering_lines net) (ipsec_lines net) filtering_read (subst (λ lines. ReadsInto whole lines whole) (sym (no_ipsec_lines net alone)) refl)
+  lines_read : HasFilteringAlone net → ReadsInto (declared_by_network []) (net_lines net) whole
+  lines_read alone = then_reads (declared_by_network []) whole whole (filtering_lines net) (ipsec_lines net) filtering_read (subst (λ lines. ReadsInto whole lines whole) (sym (no_ipsec_lines net alone)) refl)
 
   same_plan : HasFilteringAlone net → network_of whole ≡ net
   unfolding network_of whole

@@ -5,18 +5,18 @@ use Rattle.std.proofs.lemmas.Bool.{cases_Bool, and_from, and_parts, lt-ltb}
 use Rattle.np_text.specs.Words.{is_blank, ends_word, words_of}
 use Rattle.np_net.specs.Names.{is_file_byte}
 use Rattle.np_lines.specs.Skipping.{is_text_byte}
-use Rattle.np_net_read.specs.Words.{AreWords}
+use Rattle.np_net_read.specs.Words.{ArePlainWords}
 
 -- a byte of a network's text that is no blank may stand in a file's name
 file_byte : (b : ℕ) → is_text_byte b ≡ true → is_blank b ≡ false → is_file_byte b ≡ true
 file_byte b text other = grind (arith, rules)
 
-onto_first-words : (b : ℕ) (words : List (List ℕ)) → is_file_byte b ≡ true → AreWords words → AreWords (onto_first b words)
+onto_first-words : (b : ℕ) (words : List (List ℕ)) → is_file_byte b ≡ true → ArePlainWords words → ArePlainWords (onto_first b words)
 onto_first-words b [] one h = (rw one refl, tt)
 onto_first-words b (word ∷ words) one h = (and_from _ _ (lt-ltb 0 (length (b ∷ word)) (omega arith)) (and_from _ _ one (and_parts _ _ h.0).1), h.1)
 
 -- each word of such a line may name a file
-pub words_of_text : (line : List ℕ) → list_all is_text_byte line ≡ true → AreWords (words_of line)
+pub words_of_text : (line : List ℕ) → list_all is_text_byte line ≡ true → ArePlainWords (words_of line)
 words_of_text [] text = tt
 words_of_text (b ∷ bs) text =
     let split = and_parts _ _ text in

@@ -70,9 +70,9 @@ abbrev pub last_or : Option ℕ → List ℕ → Option ℕ
 last_or before [] = before
 last_or before (n ∷ ns) = last_or (Some n) ns
 
--- what statements declare: each list has its own of them, in their order
-unfoldable pub declared_by : List Statement → Declared
-declared_by statements = record {
+-- what the statements of a network's text declare: each list has its own of them, in their order
+unfoldable pub declared_by_network : List Statement → Declared
+declared_by_network statements = record {
   areas = filter_map area_in statements;
   devices = filter_map device_in statements;
   interfaces = filter_map interface_in statements;

@@ -4,5 +4,5 @@ use Rattle.std.specs.List.{AllByRecursion}
 use Rattle.np_net.specs.Names.{is_file_name}
 
 -- each of the words may name a file
-abbrev pub AreWords : List (List ℕ) → Type 0
-AreWords words = AllByRecursion (λ word. is_file_name word ≡ true) words
+abbrev pub ArePlainWords : List (List ℕ) → Type 0
+ArePlainWords words = AllByRecursion (λ word. is_file_name word ≡ true) words

@@ -5,7 +5,7 @@ ghost use Rattle.std.specs.List.{list_any};
 ghost use Rattle.std.specs.Str.{bytes_eq};
 ghost use Rattle.np_net_read.specs.Drafting.{IsDraft};
 ghost use Rattle.np_net_read.specs.Fitting.{Fits, IsNewArea, IsNewDevice, IsNewInterface, IsNewSlot, added};
-ghost use Rattle.np_net_read.specs.Declaring.{declared_by};
+ghost use Rattle.np_net_read.specs.Declaring.{declared_by_network};
 ghost use Rattle.np_lines.specs.Answers.{Gives};
 ghost use Rattle.np_net_read.specs.Judging as judging;
 ghost use Rattle.np_net_read.specs.declared.statement.Statement.TheVariants as says;
@@ -39,9 +39,9 @@ pub struct Draft {
 }
 
 /// Nothing is declared.
-#[tactic(auto, unfolding(crate::specs::Declaring::declared_by))]
+#[tactic(auto, unfolding(crate::specs::Declaring::declared_by_network))]
 fn nothing_declared(alloc: Global) -> Declared
-    ensures { result ≡ declared_by [] }
+    ensures { result ≡ declared_by_network [] }
 {
     Declared {
         areas: Items::new(alloc),
@@ -56,7 +56,7 @@ fn nothing_declared(alloc: Global) -> Declared
 impl Draft {
     /// Before any line is read.
     pub fn new(alloc: Global) -> Draft
-        ensures declared { result.declared ≡ declared_by [] }
+        ensures declared { result.declared ≡ declared_by_network [] }
         ensures draft { IsDraft result }
     {
         Draft {

@@ -9,7 +9,7 @@ ghost use Rattle.np_net.specs.Names as form;
 ghost use Rattle.np_lines.specs.Answers.{Gives, StopsAs, texts};
 ghost use Rattle.np_net_read.specs.Drafting.{IsDraft};
 ghost use Rattle.np_net_read.specs.Judging as judging;
-ghost use Rattle.np_net_read.specs.Words.{AreWords};
+ghost use Rattle.np_net_read.specs.Words.{ArePlainWords};
 
 use crate::draft::Draft;
 use crate::fault::NetWhy;
@@ -50,7 +50,7 @@ fn configured(
 
 /// What ends a device's statement: the file that holds its configuration, and whether it is trusted.
 pub fn options(alloc: Global, words: &[Word<'_>]) -> Result<(Option<Name>, bool), LineError<NetWhy>>
-    requires { AreWords (texts words.now) }
+    requires { ArePlainWords (texts words.now) }
     ensures says { Gives result (judging.options_of (texts words.now)) }
     ensures formed { IfOk result (λ options. IfSome options.0 (λ file. IsTrue (form.is_file_name file))) }
 {

@@ -1,11 +1,6 @@
 //! Why a text is no network's.
 
-ghost use Rattle.std.specs.Prelude.{◌≡◌, alloc_error};
-ghost use Rattle.np_net_read.specs.declared.fault.NetError.TheVariants.{Memory};
-
-use np_lines::LineFault;
-use std::alloc::{AllocError, AllocFailed};
-use thiserror::Error;
+use np_lines::{LineFault, TextError};
 
 /// What is wrong with a line.
 #[derive(Clone, Copy, Debug, PartialEq, Eq)]
@@ -41,29 +36,6 @@ pub enum NetWhy {
 /// The first faulty line of a text, and its first fault in the order of its words.
 pub type NetFault = LineFault<NetWhy>;
 
-/// Why no network was read.
-#[derive(Clone, Copy, Debug, Error)]
-pub enum NetError {
-    /// The text has a faulty line.
-    #[error("a line of the network's text is faulty")]
-    Fault(NetFault),
-    /// Memory ran out.
-    #[error("out of memory")]
-    Memory(AllocError),
-}
-
-impl From<AllocError> for NetError {
-    ghost from_gives = { λ error e. e ≡ Memory error };
-
-    fn from(error: AllocError) -> NetError {
-        NetError::Memory(error)
-    }
-}
-
-impl<T: Drop> From<AllocFailed<T>> for NetError {
-    ghost from_gives = { λ _ e. e ≡ Memory alloc_error };
-
-    fn from(_error: AllocFailed<T>) -> NetError {
-        NetError::Memory(AllocError)
-    }
-}
+/// Why no network was read: `Fault` where a line of the text is faulty, with the first such line,
+/// and `Memory` where memory ran out.
+pub type NetError = TextError<NetWhy>;

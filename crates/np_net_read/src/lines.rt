@@ -1,14 +1,13 @@
 //! What a line of a network's text declares.
 
 ghost use Rattle.std.specs.Prelude.{◌≡◌, false, IfOk, IfErr, IfSome, OnOk, Ok};
-ghost use Rattle.np_lines.specs.Answers.{Gives, texts};
+ghost use Rattle.np_lines.specs.Answers.{Gives, IsFaultOf, texts};
 ghost use Rattle.np_lines.specs.Declaring.{after_line};
 ghost use Rattle.np_lines.specs.Skipping.{is_skipped};
-ghost use Rattle.np_net_read.specs.Answers.{IsFaultOf};
 ghost use Rattle.np_net_read.specs.Drafting.{IsDraft};
 ghost use Rattle.np_net_read.specs.Fitting.{Fits, added};
 ghost use Rattle.np_net_read.specs.Judging as judging;
-ghost use Rattle.np_net_read.specs.Words.{AreWords};
+ghost use Rattle.np_net_read.specs.Words.{ArePlainWords};
 
 use crate::draft::Draft;
 use crate::fault::{NetError, NetFault, NetWhy};
@@ -43,7 +42,7 @@ fn statement(
     words: &[Word<'_>],
 ) -> Result<Statement, LineError<NetWhy>>
     requires draft { IsDraft draft.now }
-    requires words { AreWords (texts words.now) }
+    requires words { ArePlainWords (texts words.now) }
     ensures says { Gives result (judging.statement_says draft.now.declared word.now (texts words.now)) }
     ensures fits { IfOk result (λ s. Fits draft.now.declared s) }
 {
@@ -75,7 +74,7 @@ fn said(
     words: &[Word<'_>],
 ) -> Result<Option<Statement>, LineError<NetWhy>>
     requires draft { IsDraft draft.now }
-    requires words { AreWords (texts words.now) }
+    requires words { ArePlainWords (texts words.now) }
     requires judged { is_skipped 35 (texts words.now) ≡ false }
     ensures says { Gives result (judging.words_say draft.now.declared (texts words.now)) }
     ensures fits { IfOk result (λ said. IfSome said (λ s. Fits draft.now.declared s)) }

@@ -1,7 +1,7 @@
 //! A network from its text.
 
 ghost use Rattle.std.specs.Prelude.{◌≡◌, ◌≤◌, ◌*◌, Ok, IfOk, IfErr, length, map};
-ghost use Rattle.np_net_read.specs.Answers.{IsFaultOf};
+ghost use Rattle.np_lines.specs.Answers.{IsFaultOf};
 ghost use Rattle.np_net_read.specs.Declaring.{free_flags, network_of, no_rules};
 ghost use Rattle.np_net_read.specs.Drafting.{IsDraft};
 ghost use Rattle.np_net_read.specs.Reading.{net_of};

@@ -5,7 +5,7 @@ ghost use Rattle.np_lines.specs.Answers.{Gives, texts};
 ghost use Rattle.np_net_read.specs.Drafting.{IsDraft};
 ghost use Rattle.np_net_read.specs.Fitting.{Fits};
 ghost use Rattle.np_net_read.specs.Judging as judging;
-ghost use Rattle.np_net_read.specs.Words.{AreWords};
+ghost use Rattle.np_net_read.specs.Words.{ArePlainWords};
 
 use crate::draft::Draft;
 use crate::endings::{options, predicate, trusted};
@@ -69,7 +69,7 @@ pub fn device(
     words: &[Word<'_>],
 ) -> Result<Statement, LineError<NetWhy>>
     requires draft { IsDraft draft.now }
-    requires words { AreWords (texts words.now) }
+    requires words { ArePlainWords (texts words.now) }
     ensures says { Gives result (judging.device_says draft.now.declared (texts words.now)) }
     ensures fits { IfOk result (λ s. Fits draft.now.declared s) }
 {

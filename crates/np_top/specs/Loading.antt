@@ -4,8 +4,9 @@ use Rattle.np_top.specs.declared.load.Halt.{Halt}
 use Rattle.np_top.specs.declared.load.Halt.TheVariants as halts
 use Rattle.np_top.specs.declared.reader_error.ReaderError.{ReaderError}
 use Rattle.np_top.specs.declared.reader_error.ReaderError.TheVariants as errors
-use Rattle.np_net_read.specs.declared.fault.NetError.{NetError}
-use Rattle.np_net_read.specs.declared.fault.NetError.TheVariants as unread
+use Rattle.np_lines.specs.declared.text_error.TextError.{TextError}
+use Rattle.np_lines.specs.declared.text_error.TextError.TheVariants as unread
+use Rattle.np_net_read.specs.declared.fault.NetWhy.{NetWhy}
 use Rattle.np_top.specs.Report.{not_built_text}
 use Rattle.np_top.specs.Show.{fault_text}
 
@@ -22,6 +23,6 @@ HaltsBy file (errors.Refused number) halt = halt ≡ halts.Refused (not_built_te
 HaltsBy file errors.Memory halt = halt ≡ halts.Memory
 
 -- the same for a text that is no network's
-abbrev pub HaltsByFault : List ℕ → NetError → Halt → Type 0
+abbrev pub HaltsByFault : List ℕ → TextError NetWhy → Halt → Type 0
 HaltsByFault file (unread.Fault fault) halt = halt ≡ halts.Refused (fault_text file fault)
 HaltsByFault file (unread.Memory e) halt = halt ≡ halts.Memory

@@ -1,0 +1,19 @@
+-- What two diagrams are combined to.
+use Rattle.std.specs.Prelude.{◌≡◌, ℕ, ◌≤◌, ◌<◌, Bool, ◌&&◌, ◌||◌, not, List, length}
+use Rattle.np_bdd.specs.declared.views.View.{View}
+use Rattle.np_bdd.specs.declared.combining.Operation.{Operation}
+use Rattle.np_bdd.specs.declared.combining.Operation.TheVariants.{Meet, Minus, Join}
+use Rattle.np_bdd.specs.Views.{Bits, leads_to_yes}
+use Rattle.np_bdd.specs.Diagram.{bit_at_place}
+
+-- what the operation makes of two answers
+abbrev pub combined : Operation → Bool → Bool → Bool
+combined Meet x y = x && y
+combined Minus x y = x && not y
+combined Join x y = x || y
+
+-- a place from which bits lead to Yes where the operation says so of the other two places; it tests no bit before both of theirs
+pub record IsCombined (operation : Operation) (views : List View) (x y z : ℕ) : Type 0 where
+  pub there : z < length views
+  pub from : (bit : ℕ) → bit ≤ bit_at_place views x → bit ≤ bit_at_place views y → bit ≤ bit_at_place views z
+  pub exact : (bits : Bits) → leads_to_yes views bits z ≡ combined operation (leads_to_yes views bits x) (leads_to_yes views bits y)

@@ -1,0 +1,5 @@
+pub mod Views
+pub mod Diagram
+pub mod Nodes
+pub mod Combining
+pub mod Fields

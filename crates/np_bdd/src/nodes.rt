@@ -1,0 +1,103 @@
+//! The list of views that a store's nodes show.
+
+ghost use Rattle.std.specs.Prelude.{◌≡◌, ◌+◌, ◌<◌, ◌≤◌, [], ◌∷◌, ℕ, length, IfOk};
+
+use crate::views::{BITS, NO, Node, View, YES};
+use indexmap::IndexSet;
+use std::alloc::{AllocError, Global};
+use std::marker::Model;
+
+/// An ordered reduced decision diagram: the views of its nodes, each at its node's place.
+#[derive(Drop)]
+pub(crate) struct Nodes {
+    views: IndexSet<View>,
+}
+
+/// The nodes of a test's two branches.
+#[derive(Clone, Copy)]
+pub(crate) struct Branches {
+    pub low: Node,
+    pub high: Node,
+}
+
+impl Model for Nodes {
+    ghost use Rattle.std.specs.Prelude.{List};
+    ghost use Rattle.np_bdd.specs.declared.views.View.{View as Shown};
+    ghost use Rattle.np_bdd.specs.Diagram.{IsDiagram};
+
+    ghost Value = { List Shown };
+
+    ghost view = { λ s. s.views.keys };
+
+    ghost invariant = { λ s. IsDiagram s.views.keys };
+}
+
+impl Nodes {
+    ghost use Rattle.std.specs.Prelude.{List};
+    ghost use Rattle.np_bdd.specs.declared.views.View.TheVariants.{No, Yes};
+    ghost use Rattle.np_bdd.specs.Views.{view_at};
+    ghost use Rattle.np_bdd.specs.Diagram.{bit_at_place, IsOrdered};
+    ghost use Rattle.np_bdd.specs.Nodes.{KeepsNodes, StartsAt, IsSplit, Chooses};
+
+    /// The diagram that has no test yet.
+    pub(crate) fn new(alloc: Global) -> Result<Nodes, AllocError>
+        ensures { IfOk result (λ s. s ≡ No ∷ Yes ∷ []) }
+    {
+        let mut views = IndexSet::new(alloc);
+        views.insert(View::No)?;
+        views.insert(View::Yes)?;
+        Ok(Nodes { views })
+    }
+
+    /// What the node shows.
+    pub(crate) fn view(&self, x: Node) -> View
+        requires { x.at < length self.now }
+        ensures view { result ≡ view_at self.now x.at }
+        ensures ordered { IsOrdered self.now result }
+        ensures unique { (y : ℕ) → y < length self.now → view_at self.now y ≡ result → y ≡ x.at }
+    {
+        self.views.as_slice()[x.at]
+    }
+
+    /// The bit that the node tests, and one past the last where it tests none.
+    pub(crate) fn bit(&self, x: Node) -> u8
+        requires { x.at < length self.now }
+        ensures bit { result ≡ bit_at_place self.now x.at }
+        ensures small { result ≤ 111 }
+    {
+        self.view(x).bit()
+    }
+
+    /// The nodes that decide where the bit is 0 and where it is 1. The node tests no bit before it.
+    pub(crate) fn branches(&self, bit: u8, x: Node) -> Branches
+        requires bit { bit < 111 }
+        requires starts { StartsAt self.now bit x.at }
+        ensures { IsSplit self.now bit result.low.at result.high.at x.at }
+    {
+        match self.view(x) {
+            View::Test {
+                bit: tested,
+                low,
+                high,
+            } if tested == bit => Branches { low, high },
+            _ => Branches { low: x, high: x },
+        }
+    }
+
+    /// The node that decides by the bit between two nodes, both of which test later bits alone.
+    #[tactic(auto, using(crate::proofs::PlaceLemmas::leads_on))]
+    pub(crate) fn node(&mut self, bit: u8, low: Node, high: Node) -> Result<Node, AllocError>
+        requires bit { bit < 111 }
+        requires low { StartsAt self.old (1 + bit) low.at }
+        requires high { StartsAt self.old (1 + bit) high.at }
+        ensures kept { KeepsNodes self.old self.new }
+        ensures starts { IfOk result (λ z. StartsAt self.new bit z.at) }
+        ensures chooses { IfOk result (λ z. Chooses self.new bit low.at high.at z.at) }
+    {
+        if low == high {
+            return Ok(low);
+        }
+        let (at, _) = self.views.insert_full(View::Test { bit, low, high })?;
+        Ok(Node { at })
+    }
+}

@@ -1,6 +1,6 @@
 //! The nodes that test whole fields of a header.
 
-ghost use Rattle.std.specs.Prelude.{◌≡◌, ◌+◌, ◌<◌, ◌≤◌, ◌^◌, length, IfOk};
+ghost use Rattle.std.specs.Prelude.{◌≡◌, ◌+◌, ◌<◌, ◌≤◌, ◌^◌, false, length, IfOk};
 ghost use Rattle.np_space.specs.Ternary.{ternary_has};
 ghost use Rattle.np_space.specs.Span.{span_has};
 
@@ -10,8 +10,17 @@ use np_space::{Block, Span, Ternary};
 use std::alloc::AllocError;
 
 impl Nodes {
+    ghost use Rattle.np_bdd.specs.Views.{Bits, leads_to_yes};
     ghost use Rattle.np_bdd.specs.Nodes.{KeepsNodes, StartsAt};
     ghost use Rattle.np_bdd.specs.Fields.{TestsField, lower_has, HasHeaders};
+
+    /// The node of `No`.
+    pub(crate) fn no(&self) -> Node
+        ensures starts { StartsAt self.now 111 result.at }
+        ensures none { (bits : Bits) → leads_to_yes self.now bits result.at ≡ false }
+    {
+        NO
+    }
 
     /// The node that tests whether the pattern has the address of 32 bits from the first one on, and
     /// goes on at the tail.

@@ -1,6 +1,6 @@
 //! The ways of a header's bits, and of the least header, through a diagram.
 
-ghost use Rattle.std.specs.Prelude.{◌≡◌, ◌↔◌, ◌<◌, length, false, IsTrue, IsNone, IfSome};
+ghost use Rattle.std.specs.Prelude.{◌≡◌, ◌↔◌, ◌==◌, ◌<◌, length, false, IsTrue, IsNone, IfSome};
 ghost use Rattle.np_space.specs.Header.{IsLeast};
 ghost use Rattle.np_space.specs.declared.headers.Header.{Header};
 
@@ -40,7 +40,8 @@ impl Nodes {
     pub(crate) fn same(&self, x: Node, y: Node) -> bool
         requires first { x.at < length self.now }
         requires second { y.at < length self.now }
-        ensures { IsTrue result ↔ ((h : Header) → node_has self.now x h ≡ node_has self.now y h) }
+        ensures equal { result ≡ (x.at == y.at) }
+        ensures exact { IsTrue result ↔ ((h : Header) → node_has self.now x h ≡ node_has self.now y h) }
     {
         x == y
     }

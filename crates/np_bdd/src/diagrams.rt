@@ -58,6 +58,13 @@ impl Diagrams {
         })
     }
 
+    /// How many nodes there are, those that no region needs any more among them.
+    pub fn count(&self) -> usize
+        ensures { result ≡ length self.now }
+    {
+        self.nodes.count()
+    }
+
     /// Whether the two regions have the same headers, which is whether they are the same node.
     pub fn same(&self, x: &Node, y: &Node) -> bool
         requires first { IsRegion self.now x.now }

@@ -49,6 +49,13 @@ impl Nodes {
         Ok(Nodes { views })
     }
 
+    /// How many nodes there are.
+    pub(crate) fn count(&self) -> usize
+        ensures { result ≡ length self.now }
+    {
+        self.views.len()
+    }
+
     /// What the node shows.
     pub(crate) fn view(&self, x: Node) -> View
         requires { x.at < length self.now }

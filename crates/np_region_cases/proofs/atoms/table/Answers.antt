@@ -2,7 +2,7 @@ use Rattle.std.proofs.Common.{◌∙◌, arith}
 use Rattle.std.proofs.lemmas.List.{length-map}
 use Rattle.np_region.specs.Keeping.{tests_of}
 use Rattle.np_atomizer.proofs.AtomLaws.{answers_counted, region_in_store}
-use Rattle.np_ground_cases.proofs.atoms.table.Goals as goal
+use Rattle.np_region_cases.proofs.atoms.table.Goals as goal
 
 pub line-requires-clause-cuts : goal.line-requires-clause-cuts
 line-requires-clause-cuts g c =

@@ -1,14 +1,15 @@
-//! Regions: callers of a store that know no more of it than the trait says, and the plain store under
-//! them.
+//! Regions: callers of a store that know no more of it than the trait says, over both stores.
 
 ghost use Rattle.std.specs.Prelude.{◌≡◌, ◌&&◌, ◌||◌, not, true, false, IsTrue, IfOk, map, length, ◌<◌};
 ghost use Rattle.np_space.specs.Header.{is_valid_header, IsValid};
 ghost use Rattle.np_space.specs.declared.headers.Header.{Header};
 ghost use Rattle.np_region.specs.Keeping.{KeepsRegions, EachFits, some_has_header};
 
+use np_bdd::Diagrams;
 use np_region::{BlockLists, Regions};
-use np_space::{Block, Header, valid_blocks};
+use np_space::{Block, Header, Span, valid_blocks};
 use std::alloc::{AllocError, Global};
+use std::process::Abort;
 use std::test::Fail;
 
 // The first region without the second, joined with the third.
@@ -143,31 +144,53 @@ fn by_the_laws<S: Regions>(
     Ok((store.least(&rest), store.least(&all), common.len()))
 }
 
-#[test]
-fn the_least_and_the_empty_region(rt: HostRuntime) -> Result<(), Fail> {
-    let mut store = BlockLists::new(rt.alloc());
+// What every store answers.
+fn the_least_and_the_empty_region<R: Abort, S: Regions>(
+    rt: &R,
+    alloc: Global,
+    store: &mut S,
+) -> Result<(), Fail> {
     let [_, _, _, tcp, _, udp, _] = valid_blocks();
-    assert_eq!(rt; least_of_none(&mut store), None);
-    assert_eq!(rt; least_of_whole(&mut store)?, Some(header(0, false)));
-    assert_eq!(rt; whole_has(&mut store, &header(17, true))?, false);
-    let mut marked = header(6, true);
-    marked.dscp = 63;
-    assert_eq!(rt; whole_has(&mut store, &marked)?, true);
-    marked.dscp = 64;
-    assert_eq!(rt; whole_has(&mut store, &marked)?, false);
-    assert_eq!(rt; whole_less_copy_is_empty(&mut store)?, true);
+    assert_eq!(rt; least_of_none(store), None);
+    assert_eq!(rt; least_of_whole(store)?, Some(header(0, false)));
+    assert_eq!(rt; whole_has(store, &header(17, true))?, false);
+    assert_eq!(rt; whole_less_copy_is_empty(store)?, true);
+    assert_eq!(rt; least_of_join(store, &udp, &tcp)?, Some(header(6, false)));
+    assert_eq!(rt; least_of_meet(store, &udp, &tcp)?, None);
+    assert_eq!(rt; least_of_meet(store, &udp, &udp)?, Some(header(17, false)));
     assert_eq!(rt;
-        least_of_join(&mut store, &udp, &tcp)?,
-        Some(header(6, false))
-    );
-    assert_eq!(rt; least_of_meet(&mut store, &udp, &tcp)?, None);
-    assert_eq!(rt;
-        least_of_meet(&mut store, &udp, &udp)?,
-        Some(header(17, false))
-    );
-    assert_eq!(rt;
-        by_the_laws(rt.alloc(), &mut store, &tcp, &udp)?,
+        by_the_laws(alloc, store, &tcp, &udp)?,
         (Some(header(17, false)), Some(header(6, false)), 2)
     );
     Ok(())
+}
+
+// The flag and the code point of a header that is valid, and past what is.
+fn the_last_fields<R: Abort, S: Regions>(rt: &R, store: &mut S) -> Result<(), Fail> {
+    let mut marked = header(6, true);
+    marked.dscp = 63;
+    assert_eq!(rt; whole_has(store, &marked)?, true);
+    marked.dscp = 64;
+    assert_eq!(rt; whole_has(store, &marked)?, false);
+    let mut replies = Block::everything();
+    replies.est = Span::only(1);
+    replies.dscp = Span::only(46);
+    let mut least = header(6, true);
+    least.dscp = 46;
+    assert_eq!(rt; least_of_meet(store, &replies, &replies)?, Some(least));
+    Ok(())
+}
+
+#[test]
+fn regions_of_block_lists(rt: HostRuntime) -> Result<(), Fail> {
+    let mut store = BlockLists::new(rt.alloc());
+    the_least_and_the_empty_region(&rt, rt.alloc(), &mut store)?;
+    the_last_fields(&rt, &mut store)
+}
+
+#[test]
+fn regions_of_diagrams(rt: HostRuntime) -> Result<(), Fail> {
+    let mut store = Diagrams::new(rt.alloc())?;
+    the_least_and_the_empty_region(&rt, rt.alloc(), &mut store)?;
+    the_last_fields(&rt, &mut store)
 }

@@ -1,13 +1,15 @@
-//! Atoms of cuts over the plain store.
+//! Atoms of cuts, over both stores.
 
 ghost use Rattle.std.specs.Prelude.{◌≡◌, ◌<◌, ◌≤◌, [], length, slice_index_or};
 ghost use Rattle.np_region.specs.Keeping.{EachFits};
 ghost use Rattle.np_atomizer.specs.Atoms.{atoms_in, answers_of};
 
 use np_atomizer::{Atoms, atomize};
+use np_bdd::Diagrams;
 use np_region::{BlockLists, Regions};
 use np_space::{Block, Span, is_valid, valid_blocks};
 use std::alloc::{AllocError, Global};
+use std::process::Abort;
 use std::test::Fail;
 
 // An atom as a line: the fields of its least member, and what each cut answers.
@@ -111,33 +113,36 @@ fn of_none_and_whole<S: Regions>(alloc: Global, store: &mut S) -> Result<String,
     table(alloc, store, &cuts)
 }
 
-#[test]
-fn atoms_of_cuts(rt: HostRuntime) -> Result<(), Fail> {
+// What is over every store.
+fn atoms_of_cuts<R: Abort, S: Regions>(rt: &R, alloc: Global, store: &mut S) -> Result<(), Fail> {
     let [_, icmp, _, tcp, _, _, _] = valid_blocks();
-    let alloc = rt.alloc();
-    let mut store = BlockLists::new(alloc);
-    assert_eq!(rt; table(alloc, &mut store, &[])?.as_str(), "0 0 0 0 0 0 0 \n");
+    assert_eq!(rt; table(alloc, store, &[])?.as_str(), "0 0 0 0 0 0 0 \n");
     assert_eq!(rt;
-        of_rest_and_block(alloc, &mut store, &tcp)?.as_str(),
+        of_rest_and_block(alloc, store, &tcp)?.as_str(),
         "0 0 0 0 0 0 0 10\n0 0 6 0 0 0 0 01\n"
     );
     assert_eq!(rt;
-        of_blocks(alloc, &mut store, &at(&icmp, 3, 4), &icmp)?.as_str(),
+        of_blocks(alloc, store, &at(&icmp, 3, 4), &icmp)?.as_str(),
         "0 0 0 0 0 0 0 00\n0 0 1 0 0 0 0 01\n0 0 1 3 4 0 0 11\n"
     );
     assert_eq!(rt;
-        of_none_and_whole(alloc, &mut store)?.as_str(),
+        of_none_and_whole(alloc, store)?.as_str(),
         "0 0 0 0 0 0 0 01\n"
     );
     assert_eq!(rt;
-        of_blocks(
-            alloc,
-            &mut store,
-            &marked(&tcp, 40, 47),
-            &marked(&tcp, 46, 46)
-        )?
-        .as_str(),
+        of_blocks(alloc, store, &marked(&tcp, 40, 47), &marked(&tcp, 46, 46))?.as_str(),
         "0 0 0 0 0 0 0 00\n0 0 6 0 0 0 40 10\n0 0 6 0 0 0 46 11\n"
     );
     Ok(())
+}
+
+#[test]
+fn atoms_over_block_lists(rt: HostRuntime) -> Result<(), Fail> {
+    atoms_of_cuts(&rt, rt.alloc(), &mut BlockLists::new(rt.alloc()))
+}
+
+#[test]
+fn atoms_over_diagrams(rt: HostRuntime) -> Result<(), Fail> {
+    let mut store = Diagrams::new(rt.alloc())?;
+    atoms_of_cuts(&rt, rt.alloc(), &mut store)
 }

@@ -1,7 +1,7 @@
 use Rattle.std.proofs.Common.{◌≡◌, ◌+◌, ◌<◌, [], ◌∷◌, ◌++◌, length, take, ap, sym, ◌∙◌, arith}
 use Rattle.std.proofs.lemmas.List.{take_more}
-use Rattle.np_ground_cases.proofs.RegionLoops.{common_more}
-use Rattle.np_ground_cases.proofs.region.meet_each.Goals as goal
+use Rattle.np_region_cases.proofs.RegionLoops.{common_more}
+use Rattle.np_region_cases.proofs.region.meet_each.Goals as goal
 
 pub loop-region-preserved : goal.loop-region-preserved
 loop-region-preserved g c =

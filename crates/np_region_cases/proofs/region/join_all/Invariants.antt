@@ -1,6 +1,6 @@
 use Rattle.std.proofs.Common.{take}
-use Rattle.np_ground_cases.proofs.RegionLoops.{HasThoseOf}
-use Rattle.np_ground_cases.proofs.region.join_all.Given as goal
+use Rattle.np_region_cases.proofs.RegionLoops.{HasThoseOf}
+use Rattle.np_region_cases.proofs.region.join_all.Given as goal
 
 abbrev pub invariant-loop-region : goal.invariant-loop-region
 invariant-loop-region g l =

@@ -1,2 +1,4 @@
 pub mod PlaceLemmas
 pub mod KeepingLemmas
+pub mod EqualityLemmas
+pub mod AddingLemmas

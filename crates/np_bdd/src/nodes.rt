@@ -74,7 +74,20 @@ impl Nodes {
         requires starts { StartsAt self.now bit x.at }
         ensures { IsSplit self.now bit result.low.at result.high.at x.at }
     {
-        match self.view(x) {
+        self.split(bit, x, self.view(x))
+    }
+
+    /// The same of a node whose view has been read already.
+    #[tactic(auto, using(crate::proofs::AddingLemmas::split_at_test))]
+    pub(crate) fn split(&self, bit: u8, x: Node, shown: View) -> Branches
+        requires bit { bit < 111 }
+        requires starts { StartsAt self.now bit x.at }
+        requires shown { shown ≡ view_at self.now x.at }
+        ensures { IsSplit self.now bit result.low.at result.high.at x.at }
+    {
+        // opens the invariant, for the proof
+        let _ = &self.views;
+        match shown {
             View::Test {
                 bit: tested,
                 low,
@@ -85,7 +98,7 @@ impl Nodes {
     }
 
     /// The node that decides by the bit between two nodes, both of which test later bits alone.
-    #[tactic(auto, using(crate::proofs::PlaceLemmas::leads_on))]
+    #[tactic(auto, using(crate::proofs::KeepingLemmas::keeps_nodes_itself))]
     pub(crate) fn node(&mut self, bit: u8, low: Node, high: Node) -> Result<Node, AllocError>
         requires bit { bit < 111 }
         requires low { StartsAt self.old (1 + bit) low.at }

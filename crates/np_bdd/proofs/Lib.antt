@@ -2,3 +2,4 @@ pub mod PlaceLemmas
 pub mod KeepingLemmas
 pub mod EqualityLemmas
 pub mod AddingLemmas
+pub mod CombiningLemmas

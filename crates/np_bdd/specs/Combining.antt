@@ -17,3 +17,7 @@ pub record IsCombined (operation : Operation) (views : List View) (x y z : ℕ) 
   pub there : z < length views
   pub from : (bit : ℕ) → bit ≤ bit_at_place views x → bit ≤ bit_at_place views y → bit ≤ bit_at_place views z
   pub exact : (bits : Bits) → leads_to_yes views bits z ≡ combined operation (leads_to_yes views bits x) (leads_to_yes views bits y)
+
+-- bits that lead from the first place to Yes do so from the second
+pub record IsPart (views : List View) (x y : ℕ) : Type 0 where
+  pub part : (bits : Bits) → (leads_to_yes views bits x && leads_to_yes views bits y) ≡ leads_to_yes views bits x

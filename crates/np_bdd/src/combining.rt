@@ -1,6 +1,6 @@
 //! What two nodes are combined to, bit by bit.
 
-ghost use Rattle.std.specs.Prelude.{◌≡◌, ◌<◌, ◌≤◌, length, IfOk, IfSome};
+ghost use Rattle.std.specs.Prelude.{◌≡◌, ◌≢◌, true, false, ◌<◌, ◌≤◌, length, IfOk, IfSome, IsNone};
 
 use crate::nodes::Nodes;
 use crate::views::{NO, Node, YES};
@@ -19,8 +19,91 @@ pub(crate) enum Operation {
 }
 
 impl Nodes {
+    ghost use Rattle.np_bdd.specs.Diagram.{bit_at_place};
     ghost use Rattle.np_bdd.specs.Nodes.{KeepsNodes};
-    ghost use Rattle.np_bdd.specs.Combining.{IsCombined};
+    ghost use Rattle.np_bdd.specs.Combining.{IsCombined, IsPart};
+
+    // Whether it shows without a walk that the first node's headers are among the second's.
+    #[tactic(auto, using(crate::proofs::CombiningLemmas::no_is_part, crate::proofs::CombiningLemmas::part_of_yes, crate::proofs::CombiningLemmas::part_of_same,))]
+    fn is_part(&self, x: Node, y: Node) -> bool
+        ensures part { result ≡ true → IsPart self.now x.at y.at }
+        ensures first { result ≡ false → x.at ≢ 0 }
+        ensures second { result ≡ false → y.at ≢ 1 }
+    {
+        self.is_diagram();
+        if x == NO {
+            return true;
+        }
+        if y == YES {
+            return true;
+        }
+        x == y
+    }
+
+    #[tactic(auto, using(crate::proofs::CombiningLemmas::meet_first, crate::proofs::CombiningLemmas::meet_second, crate::proofs::CombiningLemmas::tests_at,))]
+    fn settled_meet(&self, x: Node, y: Node) -> Option<Node>
+        requires first { x.at < length self.now }
+        requires second { y.at < length self.now }
+        ensures settled { IfSome result (λ z. IsCombined Operation.Meet self.now x.at y.at z.at) }
+        ensures unsettled { IsNone result → bit_at_place self.now y.at < 111 }
+    {
+        self.is_diagram();
+        if self.is_part(x, y) {
+            return Some(x);
+        }
+        if self.is_part(y, x) {
+            return Some(y);
+        }
+        None
+    }
+
+    #[tactic(auto, using(crate::proofs::CombiningLemmas::minus_none, crate::proofs::CombiningLemmas::minus_first, crate::proofs::CombiningLemmas::tests_at,))]
+    fn settled_minus(&self, x: Node, y: Node) -> Option<Node>
+        requires first { x.at < length self.now }
+        requires second { y.at < length self.now }
+        ensures settled { IfSome result (λ z. IsCombined Operation.Minus self.now x.at y.at z.at) }
+        ensures unsettled { IsNone result → bit_at_place self.now y.at < 111 }
+    {
+        self.is_diagram();
+        if self.is_part(x, y) {
+            return Some(NO);
+        }
+        if y == NO {
+            return Some(x);
+        }
+        None
+    }
+
+    #[tactic(auto, using(crate::proofs::CombiningLemmas::join_first, crate::proofs::CombiningLemmas::join_second, crate::proofs::CombiningLemmas::tests_at,))]
+    fn settled_join(&self, x: Node, y: Node) -> Option<Node>
+        requires first { x.at < length self.now }
+        requires second { y.at < length self.now }
+        ensures settled { IfSome result (λ z. IsCombined Operation.Join self.now x.at y.at z.at) }
+        ensures unsettled { IsNone result → bit_at_place self.now y.at < 111 }
+    {
+        self.is_diagram();
+        if self.is_part(x, y) {
+            return Some(y);
+        }
+        if self.is_part(y, x) {
+            return Some(x);
+        }
+        None
+    }
+
+    // The answers that need no walk. Where there is none, the second node tests a bit.
+    fn settled(&self, operation: Operation, x: Node, y: Node) -> Option<Node>
+        requires first { x.at < length self.now }
+        requires second { y.at < length self.now }
+        ensures settled { IfSome result (λ z. IsCombined operation self.now x.at y.at z.at) }
+        ensures unsettled { IsNone result → bit_at_place self.now y.at < 111 }
+    {
+        match operation {
+            Operation::Meet => self.settled_meet(x, y),
+            Operation::Minus => self.settled_minus(x, y),
+            Operation::Join => self.settled_join(x, y),
+        }
+    }
 
     /// The node that the operation makes of two.
     pub(crate) fn combined(

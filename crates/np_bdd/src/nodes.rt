@@ -36,7 +36,7 @@ impl Nodes {
     ghost use Rattle.std.specs.Prelude.{List};
     ghost use Rattle.np_bdd.specs.declared.views.View.TheVariants.{No, Yes};
     ghost use Rattle.np_bdd.specs.Views.{view_at};
-    ghost use Rattle.np_bdd.specs.Diagram.{bit_at_place, IsOrdered};
+    ghost use Rattle.np_bdd.specs.Diagram.{bit_at_place, IsOrdered, IsDiagram};
     ghost use Rattle.np_bdd.specs.Nodes.{KeepsNodes, StartsAt, IsSplit, Chooses};
 
     /// The diagram that has no test yet.
@@ -54,6 +54,13 @@ impl Nodes {
         ensures { result ≡ length self.now }
     {
         self.views.len()
+    }
+
+    /// The list is a diagram. It does nothing: it tells the proofs of other modules.
+    pub(crate) fn is_diagram(&self)
+        ensures { IsDiagram self.now }
+    {
+        let _ = &self.views;
     }
 
     /// What the node shows.
@@ -81,7 +88,20 @@ impl Nodes {
         requires starts { StartsAt self.now bit x.at }
         ensures { IsSplit self.now bit result.low.at result.high.at x.at }
     {
-        match self.view(x) {
+        self.split(bit, x, self.view(x))
+    }
+
+    /// The same of a node whose view has been read already.
+    #[tactic(auto, using(crate::proofs::AddingLemmas::split_at_test))]
+    pub(crate) fn split(&self, bit: u8, x: Node, shown: View) -> Branches
+        requires bit { bit < 111 }
+        requires starts { StartsAt self.now bit x.at }
+        requires shown { shown ≡ view_at self.now x.at }
+        ensures { IsSplit self.now bit result.low.at result.high.at x.at }
+    {
+        // opens the invariant, for the proof
+        let _ = &self.views;
+        match shown {
             View::Test {
                 bit: tested,
                 low,
@@ -92,7 +112,7 @@ impl Nodes {
     }
 
     /// The node that decides by the bit between two nodes, both of which test later bits alone.
-    #[tactic(auto, using(crate::proofs::PlaceLemmas::leads_on))]
+    #[tactic(auto, using(crate::proofs::KeepingLemmas::keeps_nodes_itself))]
     pub(crate) fn node(&mut self, bit: u8, low: Node, high: Node) -> Result<Node, AllocError>
         requires bit { bit < 111 }
         requires low { StartsAt self.old (1 + bit) low.at }

@@ -1,1 +1,5 @@
+pub mod EndLemmas
+pub mod FieldLemmas
+pub mod KeepingLemmas
 pub mod PlaceLemmas
+pub mod RangeLemmas

@@ -24,7 +24,7 @@ use Rattle.np_bdd.proofs.PlaceLemmas.{leads_at_no, leads_at_yes}
 -- ---- one bit of a field
 
 -- the bits of a number below one of them are those of the rest
-bit_of_rest : (n w i : ℕ) → i < w → has_bit (n % 2 ^ w) i ≡ has_bit n i
+pub bit_of_rest : (n w i : ℕ) → i < w → has_bit (n % 2 ^ w) i ≡ has_bit n i
 unfolding has_bit
 bit_of_rest n w i l =
     let d : 0 < 2 ^ w = pow_pos w in

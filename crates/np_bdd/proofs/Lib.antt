@@ -1,3 +1,4 @@
+pub mod AddressLemmas
 pub mod EndLemmas
 pub mod FieldLemmas
 pub mod KeepingLemmas

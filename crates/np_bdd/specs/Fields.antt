@@ -4,6 +4,8 @@ use Rattle.np_space.specs.Bit.{has_bit}
 use Rattle.np_bdd.specs.declared.views.View.{View}
 use Rattle.np_space.specs.Flag.{flag_number}
 use Rattle.np_space.specs.Span.{span_has}
+use Rattle.np_space.specs.Ternary.{agrees_below}
+use Rattle.np_space.specs.declared.patterns.Ternary.{Ternary}
 use Rattle.np_space.specs.Header.{HasWidths}
 use Rattle.np_space.specs.declared.headers.Header.{Header}
 use Rattle.np_space.specs.declared.blocks.Block.{Block}
@@ -40,3 +42,7 @@ pub record IsField (test : ℕ → Bool) (first width : ℕ) (views : List View)
 -- the number is one of those from the first on, up to the one before the end
 abbrev pub range_has : ℕ → ℕ → ℕ → Bool
 range_has low end n = nat_le low n && nat_lt n end
+
+-- the number agrees with the pattern on as many of its lowest bits
+abbrev pub pattern_below : Ternary → ℕ → ℕ → Bool
+pattern_below p k n = agrees_below p.value p.wild n k

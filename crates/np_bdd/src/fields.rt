@@ -1,6 +1,7 @@
 //! The nodes that test whole fields of a header.
 
-ghost use Rattle.std.specs.Prelude.{◌≡◌, true, false, ◌+◌, ◌<◌, ◌≤◌, ◌^◌, length, IfOk};
+ghost use Rattle.std.specs.Prelude.{◌≡◌, true, false, ◌+◌, ◌-◌, ◌<◌, ◌≤◌, ◌^◌, length, IfOk};
+ghost use Rattle.np_space.specs.Bit.{has_bit};
 ghost use Rattle.np_space.specs.Ternary.{ternary_has};
 ghost use Rattle.np_space.specs.Span.{span_has};
 
@@ -10,9 +11,8 @@ use np_space::{Block, Span, Ternary};
 use std::alloc::AllocError;
 
 impl Nodes {
-    ghost use Rattle.np_space.specs.Ternary.{agrees_below};
     ghost use Rattle.np_bdd.specs.Nodes.{KeepsNodes, StartsAt};
-    ghost use Rattle.np_bdd.specs.Fields.{TestsField, lower_has, HasHeaders, IsField, range_has};
+    ghost use Rattle.np_bdd.specs.Fields.{TestsField, lower_has, HasHeaders, IsField, pattern_below, range_has};
 
     /// The node that tests whether the pattern has the address of 32 bits from the first one on, and
     /// goes on at the tail.
@@ -30,36 +30,36 @@ impl Nodes {
     {
         let mut node = tail;
         for k in 0..32 {
-            node = self.pattern_bit(first + 31 - k, pattern, k, tail, node)?;
+            node = self.pattern_bit(first, pattern, k, tail, node)?;
         }
         Ok(node)
     }
 
-    // One bit more of an address than the node so far tests, which tests the lowest `k` bits.
+    // One bit of an address more than the node tests, which tests the lowest `k` bits.
     fn pattern_bit(
         &mut self,
-        bit: u8,
+        first: u8,
         pattern: &Ternary,
         k: u8,
         tail: Node,
         node: Node,
     ) -> Result<Node, AllocError>
         requires low { k < 32 }
-        requires fits { bit < 111 }
+        requires fits { first + 32 ≤ 111 }
         requires tail { tail.at < length self.old }
-        requires field { IsField (λ n. agrees_below pattern.now.value pattern.now.wild n k) (1 + bit) k self.old tail.at node.at }
+        requires field { IsField (pattern_below pattern.now k) (first + (32 - k)) k self.old tail.at node.at }
         ensures kept { KeepsNodes self.old self.new }
-        ensures is { IfOk result (λ z. IsField (λ n. agrees_below pattern.now.value pattern.now.wild n (1 + k)) bit (1 + k) self.new tail.at z.at) }
+        ensures is { IfOk result (λ z. IsField (pattern_below pattern.now (k + 1)) (first + (32 - (k + 1))) (k + 1) self.new tail.at z.at) }
     {
-        let mask = 1 << k;
-        if pattern.wild & mask != 0 {
+        if has_bit(pattern.wild, k) {
             return Ok(node);
         }
+        let bit = first + (31 - k);
         let no = self.no();
-        if pattern.value & mask == 0 {
-            self.node(bit, node, no)
+        if has_bit(pattern.value, k) {
+            Ok(self.node(bit, no, node)?)
         } else {
-            self.node(bit, no, node)
+            Ok(self.node(bit, node, no)?)
         }
     }
 
@@ -154,4 +154,13 @@ fn power(width: u8) -> u32
     ensures { result ≡ 2 ^ width }
 {
     1 << width
+}
+
+// Whether the bit that stands for 2 ^ k is set.
+#[tactic(auto, using(std::proofs::lemmas::Nat::Bits::shr_and_one), unfolding(np_space::specs::Bit::has_bit))]
+fn has_bit(n: u32, k: u8) -> bool
+    requires { k < 32 }
+    ensures { result ≡ has_bit n k }
+{
+    n >> k & 1 == 1
 }

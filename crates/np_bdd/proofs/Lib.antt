@@ -1,6 +1,11 @@
+pub mod AddressLemmas
+pub mod EndLemmas
+pub mod FieldLemmas
+pub mod KeepingLemmas
 pub mod PlaceLemmas
 pub mod StoreLemmas
 pub mod KeepingLemmas
 pub mod EqualityLemmas
 pub mod AddingLemmas
 pub mod CombiningLemmas
+pub mod RangeLemmas

@@ -2,6 +2,8 @@
 
 ghost use Rattle.std.specs.Prelude.{◌≡◌, ◌+◌, ◌<◌, ◌≤◌, [], ◌∷◌, ℕ, length, IfOk};
 
+mod ends;
+
 use crate::views::{BITS, NO, Node, View, YES};
 use indexmap::IndexSet;
 use std::alloc::{AllocError, Global};

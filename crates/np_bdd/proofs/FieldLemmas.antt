@@ -1,0 +1,103 @@
+-- The fields of a header among its bits, and what one bit more of a field says of its number.
+use Rattle.std.proofs.Common.{◌≡◌, ℕ, zero, suc, ◌+◌, ◌-◌, ◌*◌, ◌/◌, ◌%◌, ◌<◌, ◌≤◌, ◌^◌, Bool, true, false, List, [], ◌∷◌, ◌++◌, length, slice_index_or, slice_get, Option, Some, None, refl, sym, ◌∙◌, ap, arith, if◌then◌else◌, nat_le, nat_lt}
+use Rattle.std.specs.Prelude.{◌&&◌, ◌==◌}
+use Rattle.std.specs.Int.{bit_at}
+use Rattle.std.proofs.Math.Nat.{mod-lt, mod-eq_of_lt}
+use Rattle.std.proofs.lemmas.Bool.Decides.{nat_tests}
+use Rattle.std.proofs.lemmas.Nat.{mod-pow-add, pow_pos}
+use Rattle.std.proofs.lemmas.Nat.Bits.{bit_at-lt, bit_at_cat_low}
+use Rattle.np_space.specs.Bit.{has_bit}
+use Rattle.np_space.specs.Bits.{bits_of, width_of, header_bits}
+use Rattle.np_space.specs.Flag.{flag_number}
+use Rattle.np_space.specs.Header.{HasWidths}
+use Rattle.np_space.specs.declared.headers.Header.{Header}
+use Rattle.np_space.proofs.BitOrderLaws.{bits_in_place}
+use Rattle.np_space.proofs.FlagLemmas.{flag_small}
+use Rattle.np_bdd.specs.declared.views.View.{View}
+use Rattle.np_bdd.specs.declared.views.View.TheVariants.{No, Yes, Test}
+use Rattle.np_bdd.specs.Views.{Bits, bits_of_header, view_at, leads_to_yes}
+use Rattle.np_bdd.specs.Diagram.{bit_at_place, IsDiagram}
+use Rattle.np_bdd.specs.Nodes.{KeepsNodes, StartsAt, Chooses}
+use Rattle.np_bdd.specs.Fields.{AreBitsOf, TestsField, AlwaysAnswers, IsField, range_has}
+use Rattle.np_bdd.proofs.PlaceLemmas.{leads_at_no, leads_at_yes}
+
+-- ---- one bit of a field
+
+-- the bits of a number below one of them are those of the rest
+pub bit_of_rest : (n w i : ℕ) → i < w → has_bit (n % 2 ^ w) i ≡ has_bit n i
+unfolding has_bit
+bit_of_rest n w i l =
+    let d : 0 < 2 ^ w = pow_pos w in
+    let parts : n ≡ n / 2 ^ w * 2 ^ w + n % 2 ^ w = omega arith in
+    ap (λ m. m == 1) (sym (ap (λ m. bit_at m i) parts ∙ bit_at_cat_low (n / 2 ^ w) w (n % 2 ^ w) i l))
+
+-- the field without its first bit
+pub rest_bits : (bits : Bits) (first w n : ℕ) → AreBitsOf bits first (1 + w) n → AreBitsOf bits (1 + first) w (n % 2 ^ w)
+rest_bits bits first w n a = record {
+  small = mod-lt n (pow_pos w);
+  each = λ i l. ap bits (by i) ∙ a.each (1 + i) (omega arith) ∙ ap (λ j. has_bit n j) (place i l) ∙ sym (bit_of_rest n w (w - 1 - i) (omega arith));
+}
+  where
+    by : (i : ℕ) → 1 + first + i ≡ first + (1 + i)
+    by i = omega arith
+
+    place : (i : ℕ) → i < w → 1 + w - 1 - (1 + i) ≡ w - 1 - i
+    place i l = omega arith
+
+-- its first bit is the highest of the number
+pub first_bit : (bits : Bits) (first w n : ℕ) → AreBitsOf bits first (1 + w) n → bits first ≡ has_bit n w
+first_bit bits first w n a = ap bits at ∙ a.each 0 (omega arith) ∙ ap (λ j. has_bit n j) place
+  where
+    at : first ≡ first + 0
+    at = omega arith
+
+    place : 1 + w - 1 - 0 ≡ w
+    place = omega arith
+
+-- a bit by its test
+no_bit : (b : ℕ) → b < 2 → (b == 1) ≡ false → b ≡ 0
+no_bit b l h = grind (arith, nat_tests)
+
+one_bit : (b : ℕ) → b < 2 → (b == 1) ≡ true → b ≡ 1
+one_bit b l h = grind (arith, nat_tests)
+
+-- a number, its highest bit apart
+top_bit : (n w : ℕ) → n < 2 ^ (1 + w) → n ≡ bit_at n w * 2 ^ w + n % 2 ^ w
+top_bit n w l = sym (mod-eq_of_lt l) ∙ mod-pow-add n 1 w
+
+pub top_clear : (n w : ℕ) → n < 2 ^ (1 + w) → has_bit n w ≡ false → n ≡ n % 2 ^ w
+unfolding has_bit
+top_clear n w l h = top_bit n w l ∙ ap (λ b. b * 2 ^ w + n % 2 ^ w) (no_bit (bit_at n w) (bit_at-lt n w) h) ∙ omega arith
+
+pub top_set : (n w : ℕ) → n < 2 ^ (1 + w) → has_bit n w ≡ true → n ≡ 2 ^ w + n % 2 ^ w
+unfolding has_bit
+top_set n w l h = top_bit n w l ∙ ap (λ b. b * 2 ^ w + n % 2 ^ w) (one_bit (bit_at n w) (bit_at-lt n w) h) ∙ omega arith
+
+-- ---- one node more
+
+pub split_field : (test low_test high_test : ℕ → Bool) (first width w : ℕ) → width ≡ 1 + w
+    → ((n : ℕ) → n < 2 ^ w → test n ≡ low_test n)
+    → ((n : ℕ) → n < 2 ^ w → test (2 ^ w + n) ≡ high_test n)
+    → (views : List View) (tail low high x : ℕ) → TestsField low_test (1 + first) w views tail low → TestsField high_test (1 + first) w views tail high
+    → Chooses views first low high x → TestsField test first width views tail x
+split_field test low_test high_test first width w e below above views tail low high x low_tests high_tests chooses bits n are_width =
+    chooses bits ∙ ap (λ b. if b then leads_to_yes views bits high else leads_to_yes views bits low) (first_bit bits first w n are) ∙ by (has_bit n w) refl
+  where
+    are : AreBitsOf bits first (1 + w) n
+    are = rw e at are_width
+
+    rest : AreBitsOf bits (1 + first) w (n % 2 ^ w)
+    rest = rest_bits bits first w n are
+
+    by : (b : Bool) → has_bit n w ≡ b → (if b then leads_to_yes views bits high else leads_to_yes views bits low) ≡ (test n && leads_to_yes views bits tail)
+    by false h = low_tests bits (n % 2 ^ w) rest ∙ ap (λ b. b && leads_to_yes views bits tail) (sym (ap test (top_clear n w are.small h) ∙ below (n % 2 ^ w) rest.small))
+    by true h = high_tests bits (n % 2 ^ w) rest ∙ ap (λ b. b && leads_to_yes views bits tail) (sym (ap test (top_set n w are.small h) ∙ above (n % 2 ^ w) rest.small))
+
+-- what tests a field does so among more views
+pub field_kept : (test : ℕ → Bool) (first width : ℕ) (old new : List View) (tail x : ℕ) → KeepsNodes old new → tail < length old → x < length old
+    → TestsField test first width old tail x → TestsField test first width new tail x
+field_kept test first width old new tail x kept tail_there there tests bits n are =
+    kept.same x there bits ∙ tests bits n are ∙ ap (λ b. test n && b) (sym (kept.same tail tail_there bits))
+
+pub starts_kept : (old new : List View) (bit x : ℕ) → KeepsNodes old new → StartsAt old bit x → StartsAt new bit x
+starts_kept old new bit x kept s = record { there = kept.there x s.there; from = rw (kept.bit x s.there) s.from }

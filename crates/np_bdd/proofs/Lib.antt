@@ -1,1 +1,3 @@
+pub mod HeaderBits
 pub mod PlaceLemmas
+pub mod WalkLemmas

@@ -49,7 +49,7 @@ module _ (h : Header) where
   dscp_bit i m l = in_field h ((32, h.src) ∷ (32, h.dst) ∷ (8, h.proto) ∷ (16, h.a) ∷ (16, h.b) ∷ (1, flag_number h.est) ∷ []) [] 105 6 h.dscp i refl refl m l
 
 -- the one bit of a flag
-flag_is : (b : Bool) → has_bit (flag_number b) 0 ≡ b
+pub flag_is : (b : Bool) → has_bit (flag_number b) 0 ≡ b
 unfolding has_bit
 flag_is false = refl
 flag_is true = refl

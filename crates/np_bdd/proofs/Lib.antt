@@ -1,3 +1,6 @@
+pub mod CanonicalLaws
 pub mod HeaderBits
+pub mod HeaderOfBits
+pub mod NodeLaws
 pub mod PlaceLemmas
 pub mod WalkLemmas

@@ -3,3 +3,4 @@ pub mod Diagram
 pub mod Nodes
 pub mod Combining
 pub mod Fields
+pub mod Walking

@@ -58,6 +58,7 @@ impl Nodes {
         requires { x.at < length self.now }
         ensures { IsTrue result ↔ ((h : Header) → node_has self.now x h ≡ false) }
     {
+        self.is_diagram();
         x == NO
     }
 
@@ -76,6 +77,7 @@ impl Nodes {
         requires second { y.at < length self.now }
         ensures { IsTrue result ↔ ((h : Header) → node_has self.now x h ≡ node_has self.now y h) }
     {
+        self.is_diagram();
         x == y
     }
 }

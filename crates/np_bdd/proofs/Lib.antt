@@ -9,3 +9,9 @@ pub mod EqualityLemmas
 pub mod AddingLemmas
 pub mod CombiningLemmas
 pub mod RangeLemmas
+pub mod CanonicalLaws
+pub mod HeaderBits
+pub mod HeaderOfBits
+pub mod NodeLaws
+pub mod PlaceLemmas
+pub mod WalkLemmas

@@ -4,3 +4,4 @@ pub mod Nodes
 pub mod Combining
 pub mod Fields
 pub mod Store
+pub mod Walking

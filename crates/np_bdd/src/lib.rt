@@ -4,6 +4,7 @@
 mod combining;
 mod diagrams;
 mod fields;
+mod header_bits;
 mod nodes;
 mod valid;
 mod views;

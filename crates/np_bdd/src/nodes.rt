@@ -39,6 +39,7 @@ impl Nodes {
     ghost use Rattle.np_bdd.specs.declared.views.View.TheVariants.{No, Yes};
     ghost use Rattle.np_bdd.specs.Views.{view_at};
     ghost use Rattle.np_bdd.specs.Diagram.{bit_at_place, IsOrdered, IsDiagram};
+    ghost use Rattle.np_bdd.specs.Diagram.{bit_at_place, IsDiagram, IsOrdered};
     ghost use Rattle.np_bdd.specs.Nodes.{KeepsNodes, StartsAt, IsSplit, Chooses};
 
     /// The diagram that has no test yet.
@@ -73,6 +74,13 @@ impl Nodes {
         ensures unique { (y : ℕ) → y < length self.now → view_at self.now y ≡ result → y ≡ x.at }
     {
         self.views.as_slice()[x.at]
+    }
+
+    /// The list is a diagram. This only tells it to the proofs of callers, who see the list alone.
+    pub(crate) fn is_diagram(&self)
+        ensures { IsDiagram self.now }
+    {
+        let _ = &self.views;
     }
 
     /// The bit that the node tests, and one past the last where it tests none.

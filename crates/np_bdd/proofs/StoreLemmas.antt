@@ -14,37 +14,16 @@ use Rattle.np_bdd.specs.declared.views.View.{View}
 use Rattle.np_bdd.specs.Views.{Bits, bits_of_header, leads_to_yes, node_has}
 use Rattle.np_bdd.specs.Diagram.{IsRegion, KeepsViews}
 use Rattle.np_bdd.specs.Nodes.{KeepsNodes, StartsAt}
-use Rattle.np_bdd.specs.Fields.{HasHeaders}
+use Rattle.np_bdd.specs.Fields.{HasHeaders, AlwaysAnswers}
 use Rattle.np_bdd.specs.declared.combining.Operation.{Operation}
 use Rattle.np_bdd.specs.declared.combining.Operation.TheVariants.{Meet, Minus, Join}
 use Rattle.np_bdd.specs.Combining.{combined, IsCombined}
+use Rattle.np_bdd.proofs.HeaderOfBits.{widths_of, widths_true}
 use Rattle.np_bdd.specs.Store.{IsValidNode}
-
--- ---- widths as a test and as a statement
-
-pub widths_of : (h : Header) → has_widths h ≡ true → HasWidths h
-widths_of h widths =
-    let before_dscp = and_parts _ _ widths in
-    let before_b = and_parts _ _ before_dscp.0 in
-    let before_a = and_parts _ _ before_b.0 in
-    let before_proto = and_parts _ _ before_a.0 in
-    let addresses = and_parts _ _ before_proto.0 in
-    record {
-      src = ltb-true h.src (2 ^ 32) addresses.0;
-      dst = ltb-true h.dst (2 ^ 32) addresses.1;
-      proto = ltb-true h.proto (2 ^ 8) before_proto.1;
-      a = ltb-true h.a (2 ^ 16) before_a.1;
-      b = ltb-true h.b (2 ^ 16) before_b.1;
-      dscp = ltb-true h.dscp (2 ^ 6) before_dscp.1;
-    }
-
-pub widths_pass : (h : Header) → HasWidths h → has_widths h ≡ true
-widths_pass h w =
-    rw (lt-ltb h.src (2 ^ 32) w.src, lt-ltb h.dst (2 ^ 32) w.dst, lt-ltb h.proto (2 ^ 8) w.proto, lt-ltb h.a (2 ^ 16) w.a, lt-ltb h.b (2 ^ 16) w.b, lt-ltb h.dscp (2 ^ 6) w.dscp) refl
 
 -- a header whose fields are of their widths is in a node where its bits lead to Yes
 pub node_leads : (views : List View) (x : Node) (h : Header) → HasWidths h → leads_to_yes views (bits_of_header h) x.at ≡ node_has views x h
-node_leads views x h w = rw (widths_pass h w) refl
+node_leads views x h w = rw (widths_true h w) refl
 
 -- ---- what is kept
 
@@ -77,7 +56,7 @@ has_as_tested test valid h leads e false w = out (test h) refl
   where
     out : (t : Bool) → test h ≡ t → false ≡ t
     out false p = refl
-    out true p = sym w ∙ widths_pass h (valid_widths h (valid h p))
+    out true p = sym w ∙ widths_true h (valid_widths h (valid h p))
 
 pub has_exactly : (test : Header → Bool) → PassesValidAlone test → (views : List View) (x : Node) → HasHeaders test views x.at → (h : Header) → node_has views x h ≡ test h
 has_exactly test valid views x e h = has_as_tested test valid h (leads_to_yes views (bits_of_header h) x.at) (e h) (has_widths h) refl
@@ -135,8 +114,8 @@ combined_region operation old new k x y z r s c =
 
 -- ---- a node from which no bits lead to Yes
 
-pub has_none : (views : List View) (x : Node) → ((bits : Bits) → leads_to_yes views bits x.at ≡ false) → (h : Header) → node_has views x h ≡ false
-has_none views x none h = ap (λ b. has_widths h && b) (none (bits_of_header h)) ∙ never (has_widths h)
+pub has_none : (views : List View) (x : Node) → AlwaysAnswers false views x.at → (h : Header) → node_has views x h ≡ false
+has_none views x none h = ap (λ b. has_widths h && b) (none.leads (bits_of_header h)) ∙ never (has_widths h)
   where
     never : (b : Bool) → (b && false) ≡ false
     never true = refl
@@ -145,6 +124,5 @@ has_none views x none h = ap (λ b. has_widths h && b) (none (bits_of_header h))
 false_is_valid : (h : Header) → false ≡ true → IsValid h
 false_is_valid h e = grind arith
 
-pub none_region : (views : List View) (x : Node) → x.at < length views → ((bits : Bits) → leads_to_yes views bits x.at ≡ false) → IsRegion views x
-none_region views x there none =
-    record { there = there; only_valid = λ h has. false_is_valid h (sym (has_none views x none h) ∙ has) }
+pub none_region : (views : List View) (x : Node) → AlwaysAnswers false views x.at → IsRegion views x
+none_region views x none = record { there = none.starts.there; only_valid = λ h has. false_is_valid h (sym (has_none views x none h) ∙ has) }

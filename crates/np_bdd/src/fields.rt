@@ -1,28 +1,18 @@
 //! The nodes that test whole fields of a header.
 
-ghost use Rattle.std.specs.Prelude.{◌≡◌, ◌+◌, ◌<◌, ◌≤◌, ◌^◌, false, length, IfOk};
 ghost use Rattle.std.specs.Prelude.{◌≡◌, true, false, ◌+◌, ◌-◌, ◌<◌, ◌≤◌, ◌^◌, length, IfOk};
-ghost use Rattle.np_space.specs.Bit.{has_bit};
 ghost use Rattle.np_space.specs.Ternary.{ternary_has};
 ghost use Rattle.np_space.specs.Span.{span_has};
 
+use crate::header_bits::has_bit;
 use crate::nodes::Nodes;
 use crate::views::Node;
 use np_space::{Block, Span, Ternary};
 use std::alloc::AllocError;
 
 impl Nodes {
-    ghost use Rattle.np_bdd.specs.Views.{Bits, leads_to_yes};
     ghost use Rattle.np_bdd.specs.Nodes.{KeepsNodes, StartsAt};
     ghost use Rattle.np_bdd.specs.Fields.{TestsField, lower_has, HasHeaders, IsField, pattern_below, range_has};
-
-    /// The node of `No`.
-    pub(crate) fn no(&self) -> Node
-        ensures starts { StartsAt self.now 111 result.at }
-        ensures none { (bits : Bits) → leads_to_yes self.now bits result.at ≡ false }
-    {
-        NO
-    }
 
     /// The node that tests whether the pattern has the address of 32 bits from the first one on, and
     /// goes on at the tail.
@@ -164,13 +154,4 @@ fn power(width: u8) -> u32
     ensures { result ≡ 2 ^ width }
 {
     1 << width
-}
-
-// Whether the bit that stands for 2 ^ k is set.
-#[tactic(auto, using(std::proofs::lemmas::Nat::Bits::shr_and_one), unfolding(np_space::specs::Bit::has_bit))]
-fn has_bit(n: u32, k: u8) -> bool
-    requires { k < 32 }
-    ensures { result ≡ has_bit n k }
-{
-    n >> k & 1 == 1
 }

@@ -36,9 +36,9 @@ pub(crate) fn header_bit(h: &Header, bit: u8) -> bool
     }
 }
 
-// Whether the number has the bit that stands for 2 to the power of `i`.
+/// Whether the number has the bit that stands for 2 to the power of `i`.
 #[tactic(auto, unfolding(np_space::specs::Bit::has_bit), using(std::proofs::lemmas::Nat::Bits::shr_and_one))]
-fn has_bit(n: u32, i: u8) -> bool
+pub(crate) fn has_bit(n: u32, i: u8) -> bool
     requires { i < 32 }
     ensures { result ≡ has_bit n i }
 {

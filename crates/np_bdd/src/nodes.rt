@@ -4,7 +4,7 @@ ghost use Rattle.std.specs.Prelude.{◌≡◌, ◌+◌, ◌<◌, ◌≤◌, [], 
 
 mod ends;
 
-use crate::views::{BITS, NO, Node, View, YES};
+use crate::views::{Node, View};
 use indexmap::IndexSet;
 use std::alloc::{AllocError, Global};
 use std::marker::Model;
@@ -38,7 +38,6 @@ impl Nodes {
     ghost use Rattle.std.specs.Prelude.{List};
     ghost use Rattle.np_bdd.specs.declared.views.View.TheVariants.{No, Yes};
     ghost use Rattle.np_bdd.specs.Views.{view_at};
-    ghost use Rattle.np_bdd.specs.Diagram.{bit_at_place, IsOrdered, IsDiagram};
     ghost use Rattle.np_bdd.specs.Diagram.{bit_at_place, IsDiagram, IsOrdered};
     ghost use Rattle.np_bdd.specs.Nodes.{KeepsNodes, StartsAt, IsSplit, Chooses};
 
@@ -57,13 +56,6 @@ impl Nodes {
         ensures { result ≡ length self.now }
     {
         self.views.len()
-    }
-
-    /// The list is a diagram. It does nothing: it tells the proofs of other modules.
-    pub(crate) fn is_diagram(&self)
-        ensures { IsDiagram self.now }
-    {
-        let _ = &self.views;
     }
 
     /// What the node shows.

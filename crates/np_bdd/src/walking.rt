@@ -1,8 +1,6 @@
 //! The ways of a header's bits, and of the least header, through a diagram.
 
 ghost use Rattle.std.specs.Prelude.{◌≡◌, ◌↔◌, ◌==◌, ◌<◌, length, false, IsTrue, IsNone, IfSome};
-ghost use Rattle.np_space.specs.Header.{IsLeast};
-ghost use Rattle.std.specs.Prelude.{◌≡◌, ◌↔◌, ◌<◌, length, false, IsTrue, IsNone, IfSome};
 ghost use Rattle.np_space.specs.Header.{IsLeast, has_widths};
 ghost use Rattle.np_space.specs.declared.headers.Header.{Header};
 

@@ -1,6 +1,10 @@
+pub mod BitsInOrder
 pub mod CanonicalLaws
 pub mod HeaderBits
 pub mod HeaderOfBits
+pub mod LeastLaws
 pub mod NodeLaws
 pub mod PlaceLemmas
+pub mod SetBits
 pub mod WalkLemmas
+pub mod WayLemmas

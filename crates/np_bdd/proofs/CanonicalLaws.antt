@@ -59,24 +59,24 @@ leads_past views d f n b at there later =
     reads_from views d (suc n) (with_bit f n b) f (λ i from below. unchanged f n b i (λ e. omega (arith, from, e))) at there (omega (arith, later))
 
 -- the place shows a test of the bit
-record IsTestOf (views : List View) (bit at : ℕ) : Type 0 where
-  low : Node
-  high : Node
-  shows : view_at views at ≡ Test bit low high
+pub record IsTestOf (views : List View) (bit at : ℕ) : Type 0 where
+  pub low : Node
+  pub high : Node
+  pub shows : view_at views at ≡ Test bit low high
 
 -- what the diagram says of the test
-ordered_at : (views : List View) → IsDiagram views → (bit at : ℕ) → at < length views → (t : IsTestOf views bit at) → IsOrderedTest views bit t.low t.high
+pub ordered_at : (views : List View) → IsDiagram views → (bit at : ℕ) → at < length views → (t : IsTestOf views bit at) → IsOrderedTest views bit t.low t.high
 ordered_at views d bit at there t = subst (λ v. IsOrdered views v) t.shows (d.ordered at there)
 
 -- the place that the bit chooses
-abbrev chosen : {views : List View} {bit at : ℕ} → IsTestOf views bit at → Bool → ℕ
+abbrev pub chosen : {views : List View} {bit at : ℕ} → IsTestOf views bit at → Bool → ℕ
 chosen t b = if b then t.high.at else t.low.at
 
-chosen_there : (views : List View) (bit at : ℕ) (t : IsTestOf views bit at) → IsOrderedTest views bit t.low t.high → (b : Bool) → chosen t b < length views
+pub chosen_there : (views : List View) (bit at : ℕ) (t : IsTestOf views bit at) → IsOrderedTest views bit t.low t.high → (b : Bool) → chosen t b < length views
 chosen_there views bit at t o false = o.low_there
 chosen_there views bit at t o true = o.high_there
 
-chosen_later : (views : List View) (bit at : ℕ) (t : IsTestOf views bit at) → IsOrderedTest views bit t.low t.high → (b : Bool) → bit < bit_at_place views (chosen t b)
+pub chosen_later : (views : List View) (bit at : ℕ) (t : IsTestOf views bit at) → IsOrderedTest views bit t.low t.high → (b : Bool) → bit < bit_at_place views (chosen t b)
 chosen_later views bit at t o false = o.low_greater
 chosen_later views bit at t o true = o.high_greater
 

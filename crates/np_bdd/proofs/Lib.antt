@@ -1,5 +1,6 @@
 pub mod AddingLemmas
 pub mod AddressLemmas
+pub mod BitsInOrder
 pub mod CanonicalLaws
 pub mod CombiningLemmas
 pub mod EndLemmas
@@ -8,8 +9,11 @@ pub mod FieldLemmas
 pub mod HeaderBits
 pub mod HeaderOfBits
 pub mod KeepingLemmas
+pub mod LeastLaws
 pub mod NodeLaws
 pub mod PlaceLemmas
 pub mod RangeLemmas
+pub mod SetBits
 pub mod StoreLemmas
 pub mod WalkLemmas
+pub mod WayLemmas

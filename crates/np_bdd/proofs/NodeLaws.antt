@@ -26,7 +26,7 @@ same_headers views d x y tx ty same =
 -- ---- nodes without headers
 
 -- what stands first in a list
-first_view : (views : List View) → slice_get views 0 ≡ Some No → (view_at views 0 ≡ No) × (0 < length views)
+pub first_view : (views : List View) → slice_get views 0 ≡ Some No → (view_at views 0 ≡ No) × (0 < length views)
 first_view [] e = absurd (cc)
 first_view (v ∷ views) e = let same : v ≡ No = cc in (same, omega arith)
 

@@ -2,8 +2,9 @@
 
 ghost use Rattle.std.specs.Prelude.{◌≡◌, ◌<◌};
 ghost use Rattle.np_space.specs.Bit.{has_bit};
-ghost use Rattle.np_space.specs.Header.{has_widths};
+ghost use Rattle.np_space.specs.Header.{HasWidths, has_widths};
 ghost use Rattle.np_bdd.specs.Views.{bits_of_header};
+ghost use Rattle.np_bdd.specs.Walking.{IsWithBit};
 
 use np_space::Header;
 
@@ -33,6 +34,42 @@ pub(crate) fn header_bit(h: &Header, bit: u8) -> bool
         88..=103 => has_bit(h.b as u32, 103 - bit),
         104 => h.est,
         _ => has_bit(h.dscp as u32, 110 - bit),
+    }
+}
+
+/// The header with the bit set.
+#[tactic(auto, using(crate::proofs::SetBits::src_set, crate::proofs::SetBits::dst_set, crate::proofs::SetBits::proto_set, crate::proofs::SetBits::a_set, crate::proofs::SetBits::b_set, crate::proofs::SetBits::est_set, crate::proofs::SetBits::dscp_set))]
+pub(crate) fn with_bit_set(h: Header, bit: u8) -> Header
+    requires bit { bit < 111 }
+    requires widths { HasWidths h }
+    ensures { IsWithBit h result bit }
+{
+    match bit {
+        0..=31 => Header {
+            src: h.src | 1 << (31 - bit),
+            ..h
+        },
+        32..=63 => Header {
+            dst: h.dst | 1 << (63 - bit),
+            ..h
+        },
+        64..=71 => Header {
+            proto: h.proto | 1 << (71 - bit),
+            ..h
+        },
+        72..=87 => Header {
+            a: h.a | 1 << (87 - bit),
+            ..h
+        },
+        88..=103 => Header {
+            b: h.b | 1 << (103 - bit),
+            ..h
+        },
+        104 => Header { est: true, ..h },
+        _ => Header {
+            dscp: h.dscp | 1 << (110 - bit),
+            ..h
+        },
     }
 }
 

@@ -3,3 +3,4 @@ pub mod KeepingLemmas
 pub mod EqualityLemmas
 pub mod AddingLemmas
 pub mod CombiningLemmas
+pub mod MemoLemmas

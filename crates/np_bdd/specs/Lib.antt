@@ -2,4 +2,5 @@ pub mod Views
 pub mod Diagram
 pub mod Nodes
 pub mod Combining
+pub mod Memo
 pub mod Fields

@@ -4,6 +4,7 @@
 mod combining;
 mod diagrams;
 mod fields;
+mod memo;
 mod nodes;
 mod valid;
 mod views;

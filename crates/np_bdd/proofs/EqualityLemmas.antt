@@ -7,11 +7,11 @@ use Rattle.np_bdd.specs.declared.views.View.{View}
 use Rattle.np_bdd.specs.declared.views.View.TheVariants.{No, Yes, Test}
 use Rattle.np_bdd.specs.contracts.views.ViewPartialEq.TheImpl.{ghosts}
 
-both_true : (a b : Bool) → (a && b) ≡ true → (a ≡ true) × (b ≡ true)
+pub both_true : (a b : Bool) → (a && b) ≡ true → (a ≡ true) × (b ≡ true)
 both_true true b e = (refl, e)
 both_true false b e = cc
 
-same_node : (x y : Node) → x.at ≡ y.at → x ≡ y
+pub same_node : (x y : Node) → x.at ≡ y.at → x ≡ y
 same_node x y e = λ i. record { at = e i }
 
 pub view_equal : (v w : View) → ghosts.eq v w ≡ true → v ≡ w

@@ -10,6 +10,7 @@ pub mod HeaderBits
 pub mod HeaderOfBits
 pub mod KeepingLemmas
 pub mod LeastLaws
+pub mod MemoLemmas
 pub mod NodeLaws
 pub mod PlaceLemmas
 pub mod RangeLemmas

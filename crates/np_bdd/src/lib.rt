@@ -5,6 +5,7 @@ mod combining;
 mod diagrams;
 mod fields;
 mod header_bits;
+mod memo;
 mod nodes;
 mod valid;
 mod views;

@@ -12,6 +12,7 @@ use Rattle.np_bdd.specs.declared.views.View.{View}
 use Rattle.np_bdd.specs.Views.{Bits, leads_to_yes}
 use Rattle.np_bdd.specs.Nodes.{KeepsNodes, StartsAt, Chooses}
 use Rattle.np_bdd.specs.Fields.{AreBitsOf, TestsField, AlwaysAnswers, IsField, pattern_below}
+use Rattle.np_bdd.proofs.KeepingLemmas.{keeps_nodes_itself, keeps_nodes_chained}
 use Rattle.np_bdd.proofs.FieldLemmas.{bit_of_rest, rest_bits, split_field, field_kept}
 
 -- ---- the bits of a number below a power, and of such a number more
@@ -126,3 +127,24 @@ pattern_fixed false p bit k old new tail x denied z fixed value there field none
       (field_kept (λ n. false) (1 + bit) k old new tail denied kept there none.starts.there (denies (1 + bit) k old tail denied none))
       chooses;
 }
+
+-- ---- the loop
+
+-- the node so far tests the lowest bits
+pub record IsSoFar (p : Ternary) (first k : ℕ) (old views : List View) (tail x : ℕ) : Type 0 where
+  pub kept : KeepsNodes old views
+  pub field : IsField (pattern_below p k) (first + (32 - k)) k views tail x
+
+pub so_far_start : (p : Ternary) (first : ℕ) (old : List View) (tail : ℕ) → StartsAt old (first + 32) tail → IsSoFar p first 0 old old tail tail
+so_far_start p first old tail starts = record { kept = keeps_nodes_itself old; field = pattern_start p (first + 32) old tail starts }
+
+pub so_far_more : (p : Ternary) (first k : ℕ) (old views new : List View) (tail x z : ℕ) → IsSoFar p first k old views tail x → KeepsNodes views new
+    → IsField (pattern_below p (k + 1)) (first + (32 - (k + 1))) (k + 1) new tail z → IsSoFar p first (k + 1) old new tail z
+so_far_more p first k old views new tail x z so_far kept field = record { kept = keeps_nodes_chained old views new so_far.kept kept; field = field }
+
+pub so_far_end : (p : Ternary) (first : ℕ) (old views : List View) (tail x : ℕ) → IsSoFar p first 32 old views tail x
+    → StartsAt views first x × TestsField (ternary_has p) first 32 views tail x
+so_far_end p first old views tail x so_far = let field = (rw last at so_far.field) in (field.starts, pattern_end p first views tail x field.tests)
+  where
+    last : first + 0 ≡ first
+    last = omega arith

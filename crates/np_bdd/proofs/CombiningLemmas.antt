@@ -1,17 +1,19 @@
 -- What two nodes are combined to: the answers without a walk, those of two halves, and the memo's.
-use Rattle.std.proofs.Common.{◌≡◌, ◌≢◌, ℕ, ◌+◌, ◌<◌, ◌≤◌, Bool, true, false, List, [], ◌∷◌, ◌++◌, length, slice_get, Option, Some, None, refl, sym, ◌∙◌, ap, subst, arith, if◌then◌else◌, ◌⊎◌, inl, inr}
+use Rattle.std.proofs.Common.{◌≡◌, ◌≢◌, ℕ, ◌+◌, ◌-◌, ◌<◌, ◌≤◌, Bool, true, false, List, [], ◌∷◌, ◌++◌, length, min, slice_get, Option, Some, None, refl, sym, ◌∙◌, ap, subst, arith, if◌then◌else◌, ◌⊎◌, inl, inr}
 use Rattle.std.specs.Prelude.{◌&&◌, ◌||◌, not}
 use Rattle.std.proofs.lemmas.Option.{slice_get_within, get_or_from_slice_get}
 use Rattle.np_bdd.specs.declared.views.Node.{Node}
 use Rattle.np_bdd.specs.declared.views.View.{View}
 use Rattle.np_bdd.specs.declared.views.View.TheVariants.{No, Yes, Test}
+use Rattle.np_bdd.specs.declared.combining.Halves.{Halves}
 use Rattle.np_bdd.specs.declared.combining.Operation.{Operation}
 use Rattle.np_bdd.specs.declared.combining.Operation.TheVariants.{Meet, Minus, Join}
 use Rattle.np_bdd.specs.Views.{Bits, view_at, leads_to_yes}
 use Rattle.np_bdd.specs.Diagram.{bit_of, bit_at_place, IsOrdered, IsDiagram}
 use Rattle.np_bdd.specs.Nodes.{KeepsNodes, StartsAt, IsSplit, Chooses}
-use Rattle.np_bdd.specs.Combining.{combined, IsCombined, IsPart}
+use Rattle.np_bdd.specs.Combining.{combined, lesser_bit, AreHalves, IsCombined, IsPart}
 use Rattle.np_bdd.proofs.PlaceLemmas.{leads_at_no, leads_at_yes}
+use Rattle.np_bdd.proofs.KeepingLemmas.{keeps_nodes_chained}
 
 -- ---- the first two places
 
@@ -125,3 +127,67 @@ module _ (views : List View) (d : IsDiagram views) (x y : ℕ) (first : x < leng
 
   pub join_first : IsPart views y x → IsCombined Join views x y x
   join_first p = is_first Join views d x y first second (λ bits. join_back (leads_to_yes views bits x) (leads_to_yes views bits y) (p.part bits))
+
+-- ---- halves
+
+-- a branch tests a greater bit than the two places
+pub halves_fall : (views : List View) (x y : ℕ) (halves : Halves) (p q : ℕ) → AreHalves views x y halves → StartsAt views (1 + halves.bit) p → StartsAt views (1 + halves.bit) q
+    → 111 - lesser_bit views p q < 111 - lesser_bit views x y
+halves_fall views x y halves p q h a b =
+    let e = h.bit in
+    let fits = h.fits in
+    let first = a.from in
+    let second = b.from in
+    omega arith
+
+-- a combined branch tests a greater bit too
+pub half_starts : (operation : Operation) (views new : List View) (bit p q z : ℕ) → KeepsNodes views new → StartsAt views bit p → StartsAt views bit q → IsCombined operation new p q z → StartsAt new bit z
+half_starts operation views new bit p q z k a b c = record {
+  there = c.there;
+  from = c.from bit (rw (k.bit p a.there) a.from) (rw (k.bit q b.there) b.from);
+}
+
+pub starts_stay : (old new : List View) (bit x : ℕ) → KeepsNodes old new → StartsAt old bit x → StartsAt new bit x
+starts_stay old new bit x k s = record { there = k.there x s.there; from = rw (k.bit x s.there) s.from }
+
+-- where the branches of two places are combined, the place that chooses between them is what the two are combined to
+module _ (operation : Operation) (old after_low after_high new : List View) (x y : ℕ) (halves : Halves) (low high z : ℕ)
+    (h : AreHalves old x y halves) (first : x < length old) (second : y < length old)
+    (k_low : KeepsNodes old after_low) (k_high : KeepsNodes after_low after_high) (k_new : KeepsNodes after_high new)
+    (c_low : IsCombined operation after_low halves.x.low.at halves.y.low.at low) (c_high : IsCombined operation after_high halves.x.high.at halves.y.high.at high)
+    (starts : StartsAt new halves.bit z) (chooses : Chooses new halves.bit low high z) where
+  abbrev k_two : KeepsNodes old after_high
+  k_two = keeps_nodes_chained old after_low after_high k_low k_high
+
+  abbrev k_all : KeepsNodes old new
+  k_all = keeps_nodes_chained old after_high new k_two k_new
+
+  abbrev Has : Bits → ℕ → Bool
+  Has bits p = leads_to_yes old bits p
+
+  low_exact : (bits : Bits) → leads_to_yes new bits low ≡ combined operation (Has bits halves.x.low.at) (Has bits halves.y.low.at)
+  low_exact bits =
+      k_new.same low (k_high.there low c_low.there) bits ∙ k_high.same low c_low.there bits ∙ c_low.exact bits
+      ∙ rw (k_low.same halves.x.low.at h.first.low_starts.there bits, k_low.same halves.y.low.at h.second.low_starts.there bits) refl
+
+  high_exact : (bits : Bits) → leads_to_yes new bits high ≡ combined operation (Has bits halves.x.high.at) (Has bits halves.y.high.at)
+  high_exact bits =
+      k_new.same high c_high.there bits ∙ c_high.exact bits
+      ∙ rw (k_two.same halves.x.high.at h.first.high_starts.there bits, k_two.same halves.y.high.at h.second.high_starts.there bits) refl
+
+  by_bit : (b r xl xh yl yh zl zh : Bool) → r ≡ (if b then zh else zl) → zl ≡ combined operation xl yl → zh ≡ combined operation xh yh
+      → r ≡ combined operation (if b then xh else xl) (if b then yh else yl)
+  by_bit true r xl xh yl yh zl zh e l h = e ∙ h
+  by_bit false r xl xh yl yh zl zh e l h = e ∙ l
+
+  pub halves_combined : IsCombined operation new x y z
+  halves_combined = record {
+    there = starts.there;
+    from = λ bit a b. in_bits bit (rw (k_all.bit x first) at a) (rw (k_all.bit y second) at b);
+    exact = λ bits.
+        by_bit (bits halves.bit) (leads_to_yes new bits z) _ _ _ _ (leads_to_yes new bits low) (leads_to_yes new bits high) (chooses bits) (low_exact bits) (high_exact bits)
+        ∙ rw (k_all.same x first bits, k_all.same y second bits, h.first.chooses bits, h.second.chooses bits) refl;
+  }
+    where
+      in_bits : (bit : ℕ) → bit ≤ bit_at_place old x → bit ≤ bit_at_place old y → bit ≤ bit_at_place new z
+      in_bits bit a b = omega (arith, h.bit, starts.from)

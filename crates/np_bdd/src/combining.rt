@@ -1,11 +1,11 @@
 //! What two nodes are combined to, bit by bit.
 
-ghost use Rattle.std.specs.Prelude.{◌≡◌, ◌≢◌, true, false, ◌<◌, ◌≤◌, length, IfOk, IfSome, IsNone};
+ghost use Rattle.std.specs.Prelude.{◌≡◌, ◌≢◌, true, false, ◌<◌, ◌≤◌, length, IfOk, IfSome, IsNone, OnOk};
 
-use crate::nodes::Nodes;
+use crate::memo::Memo;
+use crate::nodes::{Branches, Nodes};
 use crate::views::{NO, Node, YES};
 use std::alloc::{AllocError, Global};
-use std::collections::HashMap;
 
 /// What is made of two regions.
 #[derive(Clone, Copy, Debug, PartialEq, Eq)]
@@ -18,10 +18,19 @@ pub(crate) enum Operation {
     Join,
 }
 
+// Both nodes' branches at a bit.
+#[derive(Clone, Copy)]
+struct Halves {
+    bit: u8,
+    x: Branches,
+    y: Branches,
+}
+
 impl Nodes {
     ghost use Rattle.np_bdd.specs.Diagram.{bit_at_place};
     ghost use Rattle.np_bdd.specs.Nodes.{KeepsNodes};
-    ghost use Rattle.np_bdd.specs.Combining.{IsCombined, IsPart};
+    ghost use Rattle.np_bdd.specs.Combining.{IsCombined, IsPart, AreHalves};
+    ghost use Rattle.np_bdd.specs.Memo.{IsMemo};
 
     // Whether it shows without a walk that the first node's headers are among the second's.
     #[tactic(auto, using(crate::proofs::CombiningLemmas::no_is_part, crate::proofs::CombiningLemmas::part_of_yes, crate::proofs::CombiningLemmas::part_of_same,))]
@@ -105,6 +114,52 @@ impl Nodes {
         }
     }
 
+    // Both nodes' branches at the lesser of the bits that they test.
+    fn halves(&self, x: Node, y: Node) -> Halves
+        requires first { x.at < length self.now }
+        requires second { y.at < length self.now }
+        requires tests { bit_at_place self.now y.at < 111 }
+        ensures { AreHalves self.now x.at y.at result }
+    {
+        let first = self.view(x);
+        let second = self.view(y);
+        let bit = first.bit().min(second.bit());
+        Halves {
+            bit,
+            x: self.split(bit, x, first),
+            y: self.split(bit, y, second),
+        }
+    }
+
+    // The same as `combined`, with a memo that has seen some of the pairs.
+    fn combined_by(
+        &mut self,
+        memo: &mut Memo,
+        operation: Operation,
+        x: Node,
+        y: Node,
+    ) -> Result<Node, AllocError>
+        requires first { x.at < length self.old }
+        requires second { y.at < length self.old }
+        requires memo { IsMemo operation self.old memo.old }
+        ensures kept { KeepsNodes self.old self.new }
+        ensures exact { IfOk result (λ z. IsCombined operation self.new x.at y.at z.at) }
+        ensures memo { OnOk result (IsMemo operation self.new memo.new) }
+    {
+        if let Some(z) = self.settled(operation, x, y) {
+            return Ok(z);
+        }
+        if let Some(z) = memo.found(x, y) {
+            return Ok(z);
+        }
+        let halves = self.halves(x, y);
+        let low = self.combined_by(memo, operation, halves.x.low, halves.y.low)?;
+        let high = self.combined_by(memo, operation, halves.x.high, halves.y.high)?;
+        let z = self.node(halves.bit, low, high)?;
+        memo.learn(x, y, z)?;
+        Ok(z)
+    }
+
     /// The node that the operation makes of two.
     pub(crate) fn combined(
         &mut self,
@@ -118,6 +173,7 @@ impl Nodes {
         ensures kept { KeepsNodes self.old self.new }
         ensures exact { IfOk result (λ z. IsCombined operation self.new x.at y.at z.at) }
     {
-        Ok(NO)
+        let mut memo = Memo::new(alloc);
+        self.combined_by(&mut memo, operation, x, y)
     }
 }

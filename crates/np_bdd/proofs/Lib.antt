@@ -1,4 +1,5 @@
 pub mod AddressLemmas
+pub mod BlockHeaders
 pub mod EndLemmas
 pub mod FieldLemmas
 pub mod KeepingLemmas

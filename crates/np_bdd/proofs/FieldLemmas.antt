@@ -18,7 +18,7 @@ use Rattle.np_bdd.specs.declared.views.View.TheVariants.{No, Yes, Test}
 use Rattle.np_bdd.specs.Views.{Bits, bits_of_header, view_at, leads_to_yes}
 use Rattle.np_bdd.specs.Diagram.{bit_at_place, IsDiagram}
 use Rattle.np_bdd.specs.Nodes.{KeepsNodes, StartsAt, Chooses}
-use Rattle.np_bdd.specs.Fields.{AreBitsOf, TestsField, AlwaysAnswers, IsField, range_has}
+use Rattle.np_bdd.specs.Fields.{AreBitsOf, TestsField, HasHeaders, AlwaysAnswers, IsField, range_has}
 use Rattle.np_bdd.proofs.PlaceLemmas.{leads_at_no, leads_at_yes}
 
 -- ---- one bit of a field
@@ -101,3 +101,84 @@ field_kept test first width old new tail x kept tail_there there tests bits n ar
 
 pub starts_kept : (old new : List View) (bit x : ℕ) → KeepsNodes old new → StartsAt old bit x → StartsAt new bit x
 starts_kept old new bit x kept s = record { there = kept.there x s.there; from = rw (kept.bit x s.there) s.from }
+
+-- ---- the fields of a header
+
+-- a field of it, with those before and those after
+field_bits : (h : Header) (before after : List (ℕ × ℕ)) (width n : ℕ) → n < 2 ^ width → header_bits h ≡ bits_of (before ++ (width, n) ∷ after)
+    → AreBitsOf (bits_of_header h) (width_of before) width n
+unfolding bits_of_header has_bit
+field_bits h before after width n l e = record {
+  small = l;
+  each = λ i inside. ap (λ m. m == 1) (ap (λ bits. slice_index_or bits (width_of before + i) 0) e ∙ bits_in_place before after width n i 0 inside);
+}
+
+-- the fields after each
+abbrev from_dscp : Header → List (ℕ × ℕ)
+from_dscp h = (6, h.dscp) ∷ []
+
+abbrev from_est : Header → List (ℕ × ℕ)
+from_est h = (1, flag_number h.est) ∷ from_dscp h
+
+abbrev from_b : Header → List (ℕ × ℕ)
+from_b h = (16, h.b) ∷ from_est h
+
+abbrev from_a : Header → List (ℕ × ℕ)
+from_a h = (16, h.a) ∷ from_b h
+
+abbrev from_proto : Header → List (ℕ × ℕ)
+from_proto h = (8, h.proto) ∷ from_a h
+
+abbrev from_dst : Header → List (ℕ × ℕ)
+from_dst h = (32, h.dst) ∷ from_proto h
+
+pub src_bits : (h : Header) → HasWidths h → AreBitsOf (bits_of_header h) 0 32 h.src
+unfolding width_of
+src_bits h w = field_bits h [] (from_dst h) 32 h.src w.src refl
+
+pub dst_bits : (h : Header) → HasWidths h → AreBitsOf (bits_of_header h) 32 32 h.dst
+unfolding width_of
+dst_bits h w = field_bits h ((32, h.src) ∷ []) (from_proto h) 32 h.dst w.dst refl
+
+pub proto_bits : (h : Header) → HasWidths h → AreBitsOf (bits_of_header h) 64 8 h.proto
+unfolding width_of
+proto_bits h w = field_bits h ((32, h.src) ∷ (32, h.dst) ∷ []) (from_a h) 8 h.proto w.proto refl
+
+pub a_bits : (h : Header) → HasWidths h → AreBitsOf (bits_of_header h) 72 16 h.a
+unfolding width_of
+a_bits h w = field_bits h ((32, h.src) ∷ (32, h.dst) ∷ (8, h.proto) ∷ []) (from_b h) 16 h.a w.a refl
+
+pub b_bits : (h : Header) → HasWidths h → AreBitsOf (bits_of_header h) 88 16 h.b
+unfolding width_of
+b_bits h w = field_bits h ((32, h.src) ∷ (32, h.dst) ∷ (8, h.proto) ∷ (16, h.a) ∷ []) (from_est h) 16 h.b w.b refl
+
+pub est_bits : (h : Header) → HasWidths h → AreBitsOf (bits_of_header h) 104 1 (flag_number h.est)
+unfolding width_of
+est_bits h w =
+    field_bits h ((32, h.src) ∷ (32, h.dst) ∷ (8, h.proto) ∷ (16, h.a) ∷ (16, h.b) ∷ []) (from_dscp h) 1 (flag_number h.est) (omega (arith, flag_small h.est)) refl
+
+pub dscp_bits : (h : Header) → HasWidths h → AreBitsOf (bits_of_header h) 105 6 h.dscp
+unfolding width_of
+dscp_bits h w =
+    field_bits h ((32, h.src) ∷ (32, h.dst) ∷ (8, h.proto) ∷ (16, h.a) ∷ (16, h.b) ∷ (1, flag_number h.est) ∷ []) [] 6 h.dscp w.dscp refl
+
+-- ---- the headers of a place
+
+-- a place from which every header leads to Yes
+pub has_every : (views : List View) (x : ℕ) → AlwaysAnswers true views x → HasHeaders (λ h. true) views x
+has_every views x every h w = every.leads (bits_of_header h)
+
+-- more views change nothing
+pub headers_kept : (test : Header → Bool) (old new : List View) (x : ℕ) → KeepsNodes old new → x < length old → HasHeaders test old x → HasHeaders test new x
+headers_kept test old new x kept there has h w = kept.same x there (bits_of_header h) ∙ has h w
+
+-- one field more
+pub has_field : (field : Header → ℕ) (first width : ℕ) → ((h : Header) → HasWidths h → AreBitsOf (bits_of_header h) first width (field h))
+    → (test : ℕ → Bool) (rest : Header → Bool) (old new : List View) (tail x : ℕ) → KeepsNodes old new → tail < length old
+    → HasHeaders rest old tail → TestsField test first width new tail x → HasHeaders (λ h. test (field h) && rest h) new x
+has_field field first width are test rest old new tail x kept there has tests h w =
+    tests (bits_of_header h) (field h) (are h w) ∙ ap (λ b. test (field h) && b) (headers_kept rest old new tail kept there has h w)
+
+-- the same test in other words
+pub has_alike : (test other : Header → Bool) (views : List View) (x : ℕ) → ((h : Header) → test h ≡ other h) → HasHeaders test views x → HasHeaders other views x
+has_alike test other views x alike has h w = has h w ∙ alike h

@@ -1,6 +1,7 @@
 pub mod AddingLemmas
 pub mod AddressLemmas
 pub mod BitsInOrder
+pub mod BlockHeaders
 pub mod CanonicalLaws
 pub mod CombiningLemmas
 pub mod EndLemmas

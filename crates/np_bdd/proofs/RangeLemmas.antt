@@ -2,10 +2,12 @@
 use Rattle.std.proofs.Common.{◌≡◌, ℕ, ◌+◌, ◌-◌, ◌<◌, ◌≤◌, ◌^◌, Bool, true, false, List, length, sym, ◌∙◌, ap, arith, min, nat_le, nat_lt}
 use Rattle.std.specs.Prelude.{◌&&◌}
 use Rattle.std.proofs.lemmas.Bool.Decides.{nat_tests}
+use Rattle.np_space.specs.Span.{span_has}
+use Rattle.np_space.specs.declared.spans.Span.{Span}
 use Rattle.np_bdd.specs.declared.views.View.{View}
 use Rattle.np_bdd.specs.Views.{Bits, leads_to_yes}
 use Rattle.np_bdd.specs.Nodes.{KeepsNodes, StartsAt, Chooses}
-use Rattle.np_bdd.specs.Fields.{AreBitsOf, AlwaysAnswers, IsField, range_has}
+use Rattle.np_bdd.specs.Fields.{AreBitsOf, TestsField, AlwaysAnswers, IsField, range_has}
 use Rattle.np_bdd.proofs.FieldLemmas.{split_field, field_kept}
 
 -- ---- the tests
@@ -63,3 +65,13 @@ pub range_halves : (first width w low end half below_end rest_low rest_end : ℕ
     → StartsAt new first x → Chooses new first zeros ones x → IsField (range_has low end) first width new tail x
 range_halves first width w low end half below_end rest_low rest_end next last new tail zeros ones x e power e_below e_low e_end there a b below above starts chooses =
     halves first width w low end next last new tail zeros ones x e there a b (rw (e_below, power) at below) (rw (e_low, e_end, power) at above) starts chooses
+
+-- ---- spans
+
+span_same : (s : Span) (low end n : ℕ) → low ≡ s.low → end ≡ s.high + 1 → range_has low end n ≡ span_has s n
+span_same s low end n l e = grind (arith, nat_tests)
+
+pub range_of_span : (s : Span) (first width low end : ℕ) (views : List View) (tail x : ℕ) → low ≡ s.low → end ≡ s.high + 1
+    → IsField (range_has low end) first width views tail x → TestsField (span_has s) first width views tail x
+range_of_span s first width low end views tail x l e field bits n are =
+    field.tests bits n are ∙ ap (λ b. b && leads_to_yes views bits tail) (span_same s low end n l e)

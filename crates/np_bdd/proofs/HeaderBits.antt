@@ -1,15 +1,15 @@
 -- Each bit of a header is a bit of one of its fields.
-use Rattle.std.proofs.Common.{◌≡◌, ℕ, ◌+◌, ◌-◌, ◌<◌, ◌≤◌, Bool, true, false, List, [], ◌∷◌, ◌++◌, refl, sym, ◌∙◌, ap, arith}
+use Rattle.std.proofs.Common.{◌≡◌, ℕ, ◌+◌, ◌-◌, ◌<◌, ◌≤◌, Bool, true, false, List, [], ◌∷◌, ◌++◌, refl, ◌∙◌, ap, arith}
 use Rattle.std.specs.Prelude.{◌==◌, slice_index_or}
 use Rattle.std.specs.Int.{bit_at}
 use Rattle.np_space.specs.Bit.{has_bit}
 use Rattle.np_space.specs.Flag.{flag_number}
-use Rattle.np_space.specs.Bits.{bits_of, width_of, header_fields, header_bits}
+use Rattle.np_space.specs.Bits.{bits_of, width_of, header_fields}
 use Rattle.np_space.specs.declared.headers.Header.{Header}
 use Rattle.np_space.proofs.BitOrderLaws.{bits_in_place}
-use Rattle.np_bdd.specs.Views.{Bits, bits_of_header}
+use Rattle.np_bdd.specs.Views.{bits_of_header}
 
--- the bit at a place of a field whose first bit has this number
+-- a bit of the field that begins with this one
 in_field : (h : Header) (before after : List (ℕ × ℕ)) (first width n i : ℕ) → header_fields h ≡ before ++ (width, n) ∷ after → width_of before ≡ first → first ≤ i → i < first + width → bits_of_header h i ≡ has_bit n (first + width - 1 - i)
 unfolding bits_of_header has_bit
 in_field h before after first width n i fields count low high =
@@ -18,7 +18,7 @@ in_field h before after first width n i fields count low high =
     ∙ ap (λ b. b == 1) (bits_in_place before after width n (i - first) 0 (omega (arith, low, high)))
     ∙ ap (λ j. bit_at n j == 1) (omega (arith, low, high))
 
--- the number of bits up to each field
+-- the bits of each field, whose highest bit comes first
 module _ (h : Header) where
   pub src_bit : (i : ℕ) → i < 32 → bits_of_header h i ≡ has_bit h.src (31 - i)
   unfolding width_of

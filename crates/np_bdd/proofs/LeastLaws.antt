@@ -1,12 +1,11 @@
 -- The header at the end of the way is the least that the node has.
-use Rattle.std.proofs.Common.{◌≡◌, ◌≢◌, ℕ, ◌<◌, ◌≤◌, Bool, true, false, List, length, refl, sym, ◌∙◌, ap, arith}
-use Rattle.std.specs.Prelude.{◌&&◌}
+use Rattle.std.proofs.Common.{◌≢◌, ℕ, ◌<◌, ◌≤◌, List, length}
 use Rattle.std.proofs.lemmas.Bool.{and_parts, and_from}
-use Rattle.np_space.specs.Header.{HasWidths, has_widths, zeros, IsLeast, IsLeastOf}
+use Rattle.np_space.specs.Header.{HasWidths, has_widths, zeros, IsLeast}
 use Rattle.np_space.specs.declared.headers.Header.{Header}
 use Rattle.np_bdd.specs.declared.views.Node.{Node}
 use Rattle.np_bdd.specs.declared.views.View.{View}
-use Rattle.np_bdd.specs.Views.{Bits, bits_of_header, leads_to_yes, node_has}
+use Rattle.np_bdd.specs.Views.{bits_of_header, leads_to_yes, node_has}
 use Rattle.np_bdd.specs.Diagram.{bit_at_place, IsDiagram}
 use Rattle.np_bdd.specs.Walking.{IsWay}
 use Rattle.np_bdd.proofs.HeaderOfBits.{widths_true, widths_of}

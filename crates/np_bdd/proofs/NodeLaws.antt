@@ -1,11 +1,11 @@
 -- What the headers of nodes say of their places.
-use Rattle.std.proofs.Common.{◌≡◌, ◌≢◌, ℕ, ◌<◌, ◌≤◌, Bool, true, false, List, [], ◌∷◌, length, slice_get, Some, None, refl, sym, ◌∙◌, ap, arith}
+use Rattle.std.proofs.Common.{◌≡◌, ◌<◌, Bool, true, false, List, [], ◌∷◌, length, slice_get, Some, refl, sym, ◌∙◌, ap, arith}
 use Rattle.std.specs.Prelude.{◌&&◌}
 use Rattle.np_space.specs.Header.{has_widths}
 use Rattle.np_space.specs.declared.headers.Header.{Header}
 use Rattle.np_bdd.specs.declared.views.Node.{Node}
 use Rattle.np_bdd.specs.declared.views.View.{View}
-use Rattle.np_bdd.specs.declared.views.View.TheVariants.{No, Yes, Test}
+use Rattle.np_bdd.specs.declared.views.View.TheVariants.{No}
 use Rattle.np_bdd.specs.Views.{Bits, bits_of_header, view_at, leads_to_yes, node_has}
 use Rattle.np_bdd.specs.Diagram.{IsDiagram}
 use Rattle.np_bdd.proofs.PlaceLemmas.{leads_at_no}

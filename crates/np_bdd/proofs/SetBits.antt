@@ -1,5 +1,5 @@
 -- A header with one of its bits set.
-use Rattle.std.proofs.Common.{◌≡◌, ◌≢◌, ℕ, ◌+◌, ◌-◌, ◌*◌, ◌%◌, ◌^◌, ◌<◌, ◌≤◌, Bool, true, false, refl, sym, ◌∙◌, ap, arith, ◌⊎◌, inl, inr, bit_or, w8, w16, w32}
+use Rattle.std.proofs.Common.{◌≡◌, ◌≢◌, ℕ, ◌-◌, ◌*◌, ◌%◌, ◌^◌, ◌<◌, ◌≤◌, true, false, refl, sym, ◌∙◌, ap, arith, ◌⊎◌, inl, inr, bit_or, w8, w16, w32}
 use Rattle.std.specs.Prelude.{◌==◌}
 use Rattle.std.specs.Int.{bit_at, Width}
 use mir.Val.{bits}
@@ -13,7 +13,7 @@ use Rattle.np_space.specs.declared.headers.Header.{Header}
 use Rattle.np_bdd.specs.Views.{Bits, bits_of_header}
 use Rattle.np_bdd.specs.Walking.{with_bit, IsWithBit}
 use Rattle.np_bdd.proofs.HeaderBits.{src_bit, dst_bit, proto_bit, a_bit, b_bit, est_bit, dscp_bit}
-use Rattle.np_bdd.proofs.HeaderOfBits.{FieldsHave, header_has}
+use Rattle.np_bdd.proofs.HeaderOfBits.{header_has}
 use Rattle.np_bdd.proofs.CanonicalLaws.{changed, unchanged}
 
 -- the bit in a field whose last bit is `top`
@@ -166,6 +166,8 @@ dscp_set h bit from below w = record {
     dscp = λ i m l. field_set w8 (bits_of_header h) h.dscp 110 bit i (omega (arith, below)) (omega (arith, below, from)) (omega (arith, l)) (sym (dscp_bit h i m l));
   });
 }
+
+pub ruleset field_sets = (src_set, dst_set, proto_set, a_set, b_set, dscp_set)
 
 -- ---- no bit set
 

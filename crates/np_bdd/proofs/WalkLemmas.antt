@@ -1,11 +1,10 @@
 -- The steps of bits through a diagram.
-use Rattle.std.proofs.Common.{◌≡◌, ◌≢◌, ℕ, ◌<◌, ◌≤◌, Bool, true, false, List, length, refl, sym, ◌∙◌, ap, arith, ◌⊎◌, inl, inr}
-use Rattle.np_bdd.specs.declared.views.Node.{Node}
+use Rattle.std.proofs.Common.{◌≡◌, ℕ, ◌<◌, ◌≤◌, List, length, refl, sym, ◌∙◌, ap, arith, ◌⊎◌, inl, inr}
 use Rattle.np_bdd.specs.declared.views.View.{View}
 use Rattle.np_bdd.specs.declared.views.View.TheVariants.{No, Yes, Test}
 use Rattle.np_bdd.specs.Views.{Bits, view_at, sent_by, is_yes, leads_to_yes}
-use Rattle.np_bdd.specs.Diagram.{bit_of, bit_at_place, IsOrdered, IsOrderedTest, IsDiagram}
-use Rattle.np_bdd.proofs.PlaceLemmas.{step, leads_at_no, leads_at_yes, leads_on}
+use Rattle.np_bdd.specs.Diagram.{bit_of, bit_at_place, IsOrdered, IsDiagram}
+use Rattle.np_bdd.proofs.PlaceLemmas.{step, leads_at_no, leads_at_yes}
 
 -- a step that stays, from a place without a test
 abbrev Stays : List View → Bits → ℕ → Type 0

@@ -38,7 +38,7 @@ pub(crate) fn header_bit(h: &Header, bit: u8) -> bool
 }
 
 /// The header with the bit set.
-#[tactic(auto, using(crate::proofs::SetBits::src_set, crate::proofs::SetBits::dst_set, crate::proofs::SetBits::proto_set, crate::proofs::SetBits::a_set, crate::proofs::SetBits::b_set, crate::proofs::SetBits::est_set, crate::proofs::SetBits::dscp_set))]
+#[tactic(auto, using(crate::proofs::SetBits::field_sets))]
 pub(crate) fn with_bit_set(h: Header, bit: u8) -> Header
     requires bit { bit < 111 }
     requires widths { HasWidths h }

@@ -6,7 +6,7 @@ ghost use Rattle.np_space.specs.declared.headers.Header.{Header};
 
 use crate::header_bits::{header_bit, in_widths, with_bit_set};
 use crate::nodes::Nodes;
-use crate::views::{BITS, NO, Node, View, YES};
+use crate::views::{BITS, NO, Node, View};
 use np_space::Header;
 
 impl Nodes {
@@ -43,7 +43,8 @@ impl Nodes {
     {
         match self.view(x) {
             View::No | View::Yes => x,
-            View::Test { bit, low, high } => { if header_bit(h, bit) { high } else { low } }
+            View::Test { bit, high, .. } if header_bit(h, bit) => high,
+            View::Test { low, .. } => low,
         }
     }
 

@@ -50,6 +50,7 @@ impl Nodes {
     }
 
     /// The list is a diagram. It does nothing: it tells the proofs of other modules.
+    #[inline(always)]
     pub(crate) fn is_diagram(&self)
         ensures { IsDiagram self.now }
     {

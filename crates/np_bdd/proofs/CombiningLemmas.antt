@@ -1,8 +1,7 @@
 -- What two nodes are combined to: the answers without a walk, those of two halves, and the memo's.
-use Rattle.std.proofs.Common.{◌≡◌, ◌≢◌, ℕ, ◌+◌, ◌-◌, ◌<◌, ◌≤◌, Bool, true, false, List, [], ◌∷◌, ◌++◌, length, min, slice_get, Option, Some, None, refl, sym, ◌∙◌, ap, subst, arith, if◌then◌else◌, ◌⊎◌, inl, inr}
+use Rattle.std.proofs.Common.{◌≡◌, ◌≢◌, ℕ, ◌+◌, ◌-◌, ◌<◌, ◌≤◌, Bool, true, false, List, length, refl, sym, ◌∙◌, arith, if◌then◌else◌}
 use Rattle.std.specs.Prelude.{◌&&◌, ◌||◌, not}
 use Rattle.std.proofs.lemmas.Option.{slice_get_within, get_or_from_slice_get}
-use Rattle.np_bdd.specs.declared.views.Node.{Node}
 use Rattle.np_bdd.specs.declared.views.View.{View}
 use Rattle.np_bdd.specs.declared.views.View.TheVariants.{No, Yes, Test}
 use Rattle.np_bdd.specs.declared.combining.Halves.{Halves}
@@ -10,7 +9,7 @@ use Rattle.np_bdd.specs.declared.combining.Operation.{Operation}
 use Rattle.np_bdd.specs.declared.combining.Operation.TheVariants.{Meet, Minus, Join}
 use Rattle.np_bdd.specs.Views.{Bits, view_at, leads_to_yes}
 use Rattle.np_bdd.specs.Diagram.{bit_of, bit_at_place, IsOrdered, IsDiagram}
-use Rattle.np_bdd.specs.Nodes.{KeepsNodes, StartsAt, IsSplit, Chooses}
+use Rattle.np_bdd.specs.Nodes.{KeepsNodes, StartsAt, Chooses}
 use Rattle.np_bdd.specs.Combining.{combined, lesser_bit, AreHalves, IsCombined, IsPart}
 use Rattle.np_bdd.proofs.PlaceLemmas.{leads_at_no, leads_at_yes}
 use Rattle.np_bdd.proofs.KeepingLemmas.{keeps_nodes_chained}

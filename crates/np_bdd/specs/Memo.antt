@@ -1,5 +1,5 @@
 -- What a memo says of pairs of nodes.
-use Rattle.std.specs.Prelude.{◌≡◌, ℕ, ◌<◌, Bool, ◌==◌, ◌&&◌, List, length, Option, Some, ◌⊎◌}
+use Rattle.std.specs.Prelude.{◌≡◌, ◌<◌, Bool, ◌==◌, ◌&&◌, List, length, Option, Some, ◌⊎◌}
 use Rattle.std.specs.HashMap.{get}
 use Rattle.np_bdd.specs.declared.views.Node.{Node}
 use Rattle.np_bdd.specs.declared.views.View.{View}

@@ -33,7 +33,7 @@ impl Nodes {
     ghost use Rattle.np_bdd.specs.Memo.{IsMemo};
 
     // Whether it shows without a walk that the first node's headers are among the second's.
-    #[tactic(auto, using(crate::proofs::CombiningLemmas::no_is_part, crate::proofs::CombiningLemmas::part_of_yes, crate::proofs::CombiningLemmas::part_of_same,))]
+    #[tactic(auto, using(crate::proofs::CombiningLemmas::no_is_part, crate::proofs::CombiningLemmas::part_of_yes, crate::proofs::CombiningLemmas::part_of_same))]
     fn is_part(&self, x: Node, y: Node) -> bool
         ensures part { result ≡ true → IsPart self.now x.at y.at }
         ensures first { result ≡ false → x.at ≢ 0 }
@@ -49,7 +49,7 @@ impl Nodes {
         x == y
     }
 
-    #[tactic(auto, using(crate::proofs::CombiningLemmas::meet_first, crate::proofs::CombiningLemmas::meet_second, crate::proofs::CombiningLemmas::tests_at,))]
+    #[tactic(auto, using(crate::proofs::CombiningLemmas::meet_first, crate::proofs::CombiningLemmas::meet_second, crate::proofs::CombiningLemmas::tests_at))]
     fn settled_meet(&self, x: Node, y: Node) -> Option<Node>
         requires first { x.at < length self.now }
         requires second { y.at < length self.now }
@@ -66,7 +66,7 @@ impl Nodes {
         None
     }
 
-    #[tactic(auto, using(crate::proofs::CombiningLemmas::minus_none, crate::proofs::CombiningLemmas::minus_first, crate::proofs::CombiningLemmas::tests_at,))]
+    #[tactic(auto, using(crate::proofs::CombiningLemmas::minus_none, crate::proofs::CombiningLemmas::minus_first, crate::proofs::CombiningLemmas::tests_at))]
     fn settled_minus(&self, x: Node, y: Node) -> Option<Node>
         requires first { x.at < length self.now }
         requires second { y.at < length self.now }
@@ -83,7 +83,7 @@ impl Nodes {
         None
     }
 
-    #[tactic(auto, using(crate::proofs::CombiningLemmas::join_first, crate::proofs::CombiningLemmas::join_second, crate::proofs::CombiningLemmas::tests_at,))]
+    #[tactic(auto, using(crate::proofs::CombiningLemmas::join_first, crate::proofs::CombiningLemmas::join_second, crate::proofs::CombiningLemmas::tests_at))]
     fn settled_join(&self, x: Node, y: Node) -> Option<Node>
         requires first { x.at < length self.now }
         requires second { y.at < length self.now }

@@ -69,6 +69,7 @@ impl Nodes {
     }
 
     /// The list is a diagram. This only tells it to the proofs of callers, who see the list alone.
+    #[inline(always)]
     pub(crate) fn is_diagram(&self)
         ensures { IsDiagram self.now }
     {

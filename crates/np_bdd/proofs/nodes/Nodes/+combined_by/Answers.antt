@@ -1,4 +1,4 @@
-use Rattle.std.proofs.Common.{◌≡◌, ◌+◌}
+use Rattle.std.proofs.Common.{◌+◌}
 use Rattle.np_bdd.specs.Nodes.{KeepsNodes}
 use Rattle.np_bdd.proofs.KeepingLemmas.{keeps_nodes_chained}
 use Rattle.np_bdd.proofs.CombiningLemmas.{half_starts, starts_stay, halves_combined}

@@ -1,5 +1,6 @@
 pub mod AddressLemmas
 pub mod BlockHeaders
+pub mod CombinedHeaders
 pub mod EndLemmas
 pub mod FieldLemmas
 pub mod KeepingLemmas

@@ -1,8 +1,8 @@
 pub mod AddressLemmas
-pub mod BlockHeaders
-pub mod CombinedHeaders
+pub mod BlockLemmas
 pub mod EndLemmas
 pub mod FieldLemmas
 pub mod KeepingLemmas
 pub mod PlaceLemmas
 pub mod RangeLemmas
+pub mod ValidLemmas

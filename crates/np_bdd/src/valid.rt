@@ -16,7 +16,7 @@ impl Nodes {
     ghost use Rattle.np_bdd.specs.Fields.{HasHeaders, lower_has};
 
     /// The node of all valid headers.
-    #[tactic(auto, using(crate::proofs::KeepingLemmas::keeps_nodes_chained, crate::proofs::CombinedHeaders::joined_none, crate::proofs::CombinedHeaders::joined_more))]
+    #[tactic(auto, using(crate::proofs::KeepingLemmas::keeps_nodes_chained, crate::proofs::ValidLemmas::joined_none))]
     pub(crate) fn valid(&mut self, alloc: Global) -> Result<Node, AllocError>
         ensures kept { KeepsNodes self.old self.new }
         ensures starts { IfOk result (λ z. StartsAt self.new 64 z.at) }
@@ -32,7 +32,7 @@ impl Nodes {
     }
 
     // The node of the headers that the node has, or whose fields after the addresses the block has.
-    #[tactic(auto, using(crate::proofs::KeepingLemmas::keeps_nodes_chained, crate::proofs::CombinedHeaders::combined_starts))]
+    #[tactic(auto, using(crate::proofs::KeepingLemmas::keeps_nodes_chained))]
     fn or_lower(&mut self, alloc: Global, node: Node, block: &Block) -> Result<Node, AllocError>
         requires starts { StartsAt self.old 64 node.at }
         ensures kept { KeepsNodes self.old self.new }
@@ -45,7 +45,7 @@ impl Nodes {
 
     /// The node of the valid headers that the block has. The node that is handed in is that of all
     /// valid headers.
-    #[tactic(auto, using(crate::proofs::KeepingLemmas::keeps_nodes_chained, crate::proofs::CombinedHeaders::combined_starts))]
+    #[tactic(auto, using(crate::proofs::KeepingLemmas::keeps_nodes_chained))]
     pub(crate) fn valid_of(
         &mut self,
         alloc: Global,

@@ -1,5 +1,5 @@
 use Rattle.np_bdd.specs.declared.combining.Operation.TheVariants.{Join}
-use Rattle.np_bdd.proofs.CombinedHeaders.{combined_starts}
+use Rattle.np_bdd.proofs.ValidLemmas.{combined_starts}
 use Rattle.np_bdd.proofs.FieldLemmas.{starts_kept}
 use Rattle.np_bdd.proofs.nodes.Nodes.or_lower.Goals as goal
 

@@ -1,5 +1,5 @@
 use Rattle.std.proofs.Common.{◌≡◌, ℕ, ◌+◌, ◌<◌, ◌≤◌, length, take, arith}
-use Rattle.np_bdd.proofs.CombinedHeaders.{any_lower, joined_more, joined_all}
+use Rattle.np_bdd.proofs.ValidLemmas.{any_lower, joined_more, joined_all}
 use Rattle.np_bdd.proofs.nodes.Nodes.valid.Goals as goal
 
 pub loop-block-preserved : goal.loop-block-preserved

@@ -1,4 +1,4 @@
-use Rattle.np_bdd.proofs.CombinedHeaders.{IsJoined}
+use Rattle.np_bdd.proofs.ValidLemmas.{IsJoined}
 use Rattle.np_bdd.proofs.nodes.Nodes.valid.Given as goal
 
 abbrev pub invariant-loop-block : goal.invariant-loop-block

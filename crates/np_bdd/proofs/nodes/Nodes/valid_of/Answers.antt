@@ -7,14 +7,10 @@ use Rattle.np_bdd.specs.declared.combining.Operation.TheVariants.{Meet}
 use Rattle.np_bdd.specs.declared.views.View.{View}
 use Rattle.np_bdd.specs.Nodes.{KeepsNodes, StartsAt}
 use Rattle.np_bdd.specs.Fields.{HasHeaders, lower_has}
-use Rattle.np_bdd.proofs.KeepingLemmas.{keeps_nodes_chained}
-use Rattle.np_bdd.proofs.FieldLemmas.{src_bits, dst_bits, starts_kept, headers_kept, has_field}
-use Rattle.np_bdd.proofs.BlockHeaders.{dst_has, block_all}
-use Rattle.np_bdd.proofs.CombinedHeaders.{combined_starts, combined_has}
+use Rattle.np_bdd.proofs.FieldLemmas.{src_bits, dst_bits, starts_kept, headers_kept, has_field, then_kept}
+use Rattle.np_bdd.proofs.BlockLemmas.{dst_has, block_all}
+use Rattle.np_bdd.proofs.ValidLemmas.{combined_starts, combined_has}
 use Rattle.np_bdd.proofs.nodes.Nodes.valid_of.Goals as goal
-
-after : {first next last : List View} → KeepsNodes first next → KeepsNodes next last → KeepsNodes first last
-after {first = first} {next = next} {last = last} a b = keeps_nodes_chained first next last a b
 
 pub pattern-requires-clause-tail : goal.pattern-requires-clause-tail
 pattern-requires-clause-tail c =
@@ -22,13 +18,13 @@ pattern-requires-clause-tail c =
     (starts_kept c.args.self.now c.lower.new.self 64 c.args.valid.at c.in_ok-lower.ensures.kept c.requires.starts) c.in_ok-lower.ensures.starts c.in_ok-both.ensures.exact
 
 pub returns-in_err-dst-clause-kept : goal.returns-in_err-dst-clause-kept
-returns-in_err-dst-clause-kept c = after (after c.in_ok-lower.ensures.kept c.in_ok-both.ensures.kept) c.in_err-dst.ensures.kept
+returns-in_err-dst-clause-kept c = then_kept (then_kept c.in_ok-lower.ensures.kept c.in_ok-both.ensures.kept) c.in_err-dst.ensures.kept
 
 pub returns-in_err-pattern-clause-kept : goal.returns-in_err-pattern-clause-kept
-returns-in_err-pattern-clause-kept c = after (after (after c.in_ok-lower.ensures.kept c.in_ok-both.ensures.kept) c.in_ok-dst.ensures.kept) c.in_err-pattern.ensures.kept
+returns-in_err-pattern-clause-kept c = then_kept (then_kept (then_kept c.in_ok-lower.ensures.kept c.in_ok-both.ensures.kept) c.in_ok-dst.ensures.kept) c.in_err-pattern.ensures.kept
 
 pub returns-clause-kept : goal.returns-clause-kept
-returns-clause-kept c = after (after (after c.in_ok-lower.ensures.kept c.in_ok-both.ensures.kept) c.in_ok-dst.ensures.kept) c.in_ok-pattern.ensures.kept
+returns-clause-kept c = then_kept (then_kept (then_kept c.in_ok-lower.ensures.kept c.in_ok-both.ensures.kept) c.in_ok-dst.ensures.kept) c.in_ok-pattern.ensures.kept
 
 pub returns-clause-exact : goal.returns-clause-exact
 returns-clause-exact c =

@@ -26,6 +26,7 @@ use Rattle.np_bdd.proofs.FieldLemmas.{starts_kept, headers_kept}
 
 -- ---- two places
 
+-- what they are combined to starts where both do
 pub combined_starts : (operation : Operation) (bit : ℕ) (old new : List View) (x y z : ℕ) → KeepsNodes old new → StartsAt old bit x → StartsAt old bit y
     → IsCombined operation new x y z → StartsAt new bit z
 combined_starts operation bit old new x y z kept sx sy is = record {
@@ -33,6 +34,7 @@ combined_starts operation bit old new x y z kept sx sy is = record {
   from = is.from bit (starts_kept old new bit x kept sx).from (starts_kept old new bit y kept sy).from;
 }
 
+-- and has the headers of which the operation says so
 pub combined_has : (operation : Operation) (first second : Header → Bool) (old new : List View) (x y z : ℕ) → KeepsNodes old new → x < length old → y < length old
     → HasHeaders first old x → HasHeaders second old y → IsCombined operation new x y z → HasHeaders (λ h. combined operation (first h) (second h)) new z
 combined_has operation first second old new x y z kept x_there y_there x_has y_has is h w =
@@ -41,10 +43,11 @@ combined_has operation first second old new x y z kept x_there y_there x_has y_h
 
 -- ---- blocks with any addresses
 
--- such a block has what its other fields have
+-- every address is in a pattern without fixed bits
 any_true : (p : Ternary) (x : ℕ) → p.value ≡ 0 → p.wild ≡ 0xffff_ffff → x < 2 ^ 32 → ternary_has p x ≡ true
 any_true p x value wild l = (λ i. pattern_has (value i) (wild i) x) ∙ widest_has x ∙ lt-ltb x (2 ^ 32) l
 
+-- so such a block has what its other fields have
 anywhere_lower : (b : Block) (h : Header) (first last most flags : ℕ) → block_numbers b ≡ anywhere first last most flags → HasWidths h → block_has b h ≡ lower_has b h
 unfolding block_has
 anywhere_lower b h first last most flags e w =
@@ -63,6 +66,7 @@ data AreAnywhere : List (List ℕ) → Type 0 where
   none : AreAnywhere []
   more : {first last most flags : ℕ} {rows : List (List ℕ)} → AreAnywhere rows → AreAnywhere (anywhere first last most flags ∷ rows)
 
+-- those of the valid headers are
 valid_anywhere : AreAnywhere valid_table
 valid_anywhere = more (more (more (more (more (more (more none))))))
 
@@ -87,6 +91,7 @@ pub record IsJoined (blocks : List Block) (k : ℕ) (old views : List View) (x :
   pub starts : StartsAt views 64 x
   pub has : HasHeaders (any_lower (take k blocks)) views x
 
+-- before the first
 pub joined_none : (blocks : List Block) (old : List View) (x : ℕ) → AlwaysAnswers false old x → IsJoined blocks 0 old old x
 joined_none blocks old x never = record {
   kept = keeps_nodes_itself old;
@@ -94,6 +99,7 @@ joined_none blocks old x never = record {
   has = λ h w. never.leads (bits_of_header h);
 }
 
+-- after one more
 pub joined_more : (blocks : List Block) (k : ℕ) (d : Block) (old views new : List View) (x z : ℕ) → k < length blocks → IsJoined blocks k old views x
     → KeepsNodes views new → StartsAt new 64 z → HasHeaders (λ h. any_lower (take k blocks) h || lower_has (get_or blocks k d) h) new z → IsJoined blocks (k + 1) old new z
 joined_more blocks k d old views new x z within joined kept starts has = record {
@@ -102,6 +108,7 @@ joined_more blocks k d old views new x z within joined kept starts has = record 
   has = λ h w. has h w ∙ sym (list_any_more (λ b. lower_has b h) blocks k d within);
 }
 
+-- after the last
 pub joined_all : (blocks : List Block) (k : ℕ) (old views : List View) (x : ℕ) → map block_numbers blocks ≡ valid_table → ((h : Header) → any_has blocks h ≡ is_valid_header h)
     → length blocks ≤ k → IsJoined blocks k old views x → HasHeaders is_valid_header views x
 joined_all blocks k old views x listed together last joined h w =

@@ -17,10 +17,12 @@ use Rattle.np_bdd.proofs.FieldLemmas.{bit_of_rest, rest_bits, split_field, field
 
 -- ---- the bits of a number below a power, and of such a number more
 
+-- a number has no bit from its power on
 bit_above : (n k : ℕ) → n < 2 ^ k → has_bit n k ≡ false
 unfolding has_bit
 bit_above n k l = ap (λ m. m == 1) (bit_at_above n k k l (omega arith))
 
+-- with the power added it has that bit
 bit_more : (n k : ℕ) → n < 2 ^ k → has_bit (2 ^ k + n) k ≡ true
 unfolding has_bit
 bit_more n k l = ap (λ m. bit_at m k == 1) parts ∙ ap (λ m. m == 1) (bit_at_cat_high 1 k n k l (omega arith)) ∙ ap (λ j. bit_at 1 j == 1) none
@@ -31,6 +33,7 @@ bit_more n k l = ap (λ m. bit_at m k == 1) parts ∙ ap (λ m. m == 1) (bit_at_
     none : k - k ≡ 0
     none = omega arith
 
+-- and the lower bits as before
 bit_less : (n k i : ℕ) → i < k → has_bit (2 ^ k + n) i ≡ has_bit n i
 unfolding has_bit
 bit_less n k i l = ap (λ m. bit_at m i == 1) parts ∙ ap (λ m. m == 1) (bit_at_cat_low 1 k n i l)
@@ -62,10 +65,11 @@ module _ (p : Ternary) (k : ℕ) where
       ∙ ap (λ b. (b || same_flag (has_bit n k) (has_bit p.value k)) && pattern_below p k n) wild
       ∙ sym (agree_alike p.value p.wild (n % 2 ^ k) n k (λ i l. bit_of_rest n k i l))
 
-  -- a fixed bit, where the number's is clear and where it is set
+  -- a fixed bit, where the number's is clear
   fixed_clear : (b : Bool) → has_bit p.wild k ≡ false → has_bit p.value k ≡ b → (n : ℕ) → n < 2 ^ k → pattern_below p (k + 1) n ≡ (same_flag false b && pattern_below p k n)
   fixed_clear b fixed value n l = one_more n ∙ (λ j. (fixed j || same_flag (bit_above n k l j) (value j)) && pattern_below p k n)
 
+  -- and where it is set
   fixed_set : (b : Bool) → has_bit p.wild k ≡ false → has_bit p.value k ≡ b → (n : ℕ) → n < 2 ^ k → pattern_below p (k + 1) (2 ^ k + n) ≡ (same_flag true b && pattern_below p k n)
   fixed_set b fixed value n l =
       one_more (2 ^ k + n)
@@ -130,18 +134,21 @@ pattern_fixed false p bit k old new tail x denied z fixed value there field none
 
 -- ---- the loop
 
--- the node so far tests the lowest bits
+-- the node so far tests the lowest bits, as many as the loop has passed
 pub record IsSoFar (p : Ternary) (first k : ℕ) (old views : List View) (tail x : ℕ) : Type 0 where
   pub kept : KeepsNodes old views
   pub field : IsField (pattern_below p k) (first + (32 - k)) k views tail x
 
+-- before the first
 pub so_far_start : (p : Ternary) (first : ℕ) (old : List View) (tail : ℕ) → StartsAt old (first + 32) tail → IsSoFar p first 0 old old tail tail
 so_far_start p first old tail starts = record { kept = keeps_nodes_itself old; field = pattern_start p (first + 32) old tail starts }
 
+-- after one more
 pub so_far_more : (p : Ternary) (first k : ℕ) (old views new : List View) (tail x z : ℕ) → IsSoFar p first k old views tail x → KeepsNodes views new
     → IsField (pattern_below p (k + 1)) (first + (32 - (k + 1))) (k + 1) new tail z → IsSoFar p first (k + 1) old new tail z
 so_far_more p first k old views new tail x z so_far kept field = record { kept = keeps_nodes_chained old views new so_far.kept kept; field = field }
 
+-- after the last
 pub so_far_end : (p : Ternary) (first : ℕ) (old views : List View) (tail x : ℕ) → IsSoFar p first 32 old views tail x
     → StartsAt views first x × TestsField (ternary_has p) first 32 views tail x
 so_far_end p first old views tail x so_far = let field = (rw last at so_far.field) in (field.starts, pattern_end p first views tail x field.tests)

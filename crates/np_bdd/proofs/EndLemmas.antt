@@ -14,6 +14,7 @@ found [] at v e = absurd (cc)
 found (view ∷ views) zero v e = (omega arith, cc)
 found (view ∷ views) (suc at) v e = let rest = found views at v e in (omega (arith, rest.0), rest.1)
 
+-- nothing leads from the first place to Yes
 pub no_answers : (views : List View) → IsDiagram views → AlwaysAnswers false views 0
 no_answers views d =
     let there = found views 0 No d.no_first in
@@ -22,6 +23,7 @@ no_answers views d =
       leads = λ bits. leads_at_no views bits 0 there.1;
     }
 
+-- everything does from the next
 pub yes_answers : (views : List View) → IsDiagram views → AlwaysAnswers true views 1
 yes_answers views d =
     let there = found views 1 Yes d.yes_next in

@@ -19,7 +19,7 @@ use Rattle.np_bdd.specs.Views.{Bits, bits_of_header, view_at, leads_to_yes}
 use Rattle.np_bdd.specs.Diagram.{bit_at_place, IsDiagram}
 use Rattle.np_bdd.specs.Nodes.{KeepsNodes, StartsAt, Chooses}
 use Rattle.np_bdd.specs.Fields.{AreBitsOf, TestsField, HasHeaders, AlwaysAnswers, IsField, range_has}
-use Rattle.np_bdd.proofs.PlaceLemmas.{leads_at_no, leads_at_yes}
+use Rattle.np_bdd.proofs.KeepingLemmas.{keeps_nodes_chained}
 
 -- ---- one bit of a field
 
@@ -54,10 +54,11 @@ first_bit bits first w n a = ap bits at ∙ a.each 0 (omega arith) ∙ ap (λ j.
     place : 1 + w - 1 - 0 ≡ w
     place = omega arith
 
--- a bit by its test
+-- a bit that is clear
 no_bit : (b : ℕ) → b < 2 → (b == 1) ≡ false → b ≡ 0
 no_bit b l h = grind (arith, nat_tests)
 
+-- a bit that is set
 one_bit : (b : ℕ) → b < 2 → (b == 1) ≡ true → b ≡ 1
 one_bit b l h = grind (arith, nat_tests)
 
@@ -65,16 +66,36 @@ one_bit b l h = grind (arith, nat_tests)
 top_bit : (n w : ℕ) → n < 2 ^ (1 + w) → n ≡ bit_at n w * 2 ^ w + n % 2 ^ w
 top_bit n w l = sym (mod-eq_of_lt l) ∙ mod-pow-add n 1 w
 
+-- the bit is clear
 pub top_clear : (n w : ℕ) → n < 2 ^ (1 + w) → has_bit n w ≡ false → n ≡ n % 2 ^ w
 unfolding has_bit
 top_clear n w l h = top_bit n w l ∙ ap (λ b. b * 2 ^ w + n % 2 ^ w) (no_bit (bit_at n w) (bit_at-lt n w) h) ∙ omega arith
 
+-- the bit is set
 pub top_set : (n w : ℕ) → n < 2 ^ (1 + w) → has_bit n w ≡ true → n ≡ 2 ^ w + n % 2 ^ w
 unfolding has_bit
 top_set n w l h = top_bit n w l ∙ ap (λ b. b * 2 ^ w + n % 2 ^ w) (one_bit (bit_at n w) (bit_at-lt n w) h) ∙ omega arith
 
+-- ---- more views
+
+-- one change after another
+pub then_kept : {first next last : List View} → KeepsNodes first next → KeepsNodes next last → KeepsNodes first last
+then_kept {first = first} {next = next} {last = last} a b = keeps_nodes_chained first next last a b
+
+-- what tests a field does so among more views
+pub field_kept : (test : ℕ → Bool) (first width : ℕ) (old new : List View) (tail x : ℕ) → KeepsNodes old new → tail < length old → x < length old
+    → TestsField test first width old tail x → TestsField test first width new tail x
+field_kept test first width old new tail x kept tail_there there tests bits n are =
+    kept.same x there bits ∙ tests bits n are ∙ ap (λ b. test n && b) (sym (kept.same tail tail_there bits))
+
+-- where it starts doesn't change
+pub starts_kept : (old new : List View) (bit x : ℕ) → KeepsNodes old new → StartsAt old bit x → StartsAt new bit x
+starts_kept old new bit x kept s = record { there = kept.there x s.there; from = rw (kept.bit x s.there) s.from }
+
 -- ---- one node more
 
+-- A node that chooses by the field's first bit tests the field where its branches test the rest, each as the test says
+-- with that bit.
 pub split_field : (test low_test high_test : ℕ → Bool) (first width w : ℕ) → width ≡ 1 + w
     → ((n : ℕ) → n < 2 ^ w → test n ≡ low_test n)
     → ((n : ℕ) → n < 2 ^ w → test (2 ^ w + n) ≡ high_test n)
@@ -93,15 +114,6 @@ split_field test low_test high_test first width w e below above views tail low h
     by false h = low_tests bits (n % 2 ^ w) rest ∙ ap (λ b. b && leads_to_yes views bits tail) (sym (ap test (top_clear n w are.small h) ∙ below (n % 2 ^ w) rest.small))
     by true h = high_tests bits (n % 2 ^ w) rest ∙ ap (λ b. b && leads_to_yes views bits tail) (sym (ap test (top_set n w are.small h) ∙ above (n % 2 ^ w) rest.small))
 
--- what tests a field does so among more views
-pub field_kept : (test : ℕ → Bool) (first width : ℕ) (old new : List View) (tail x : ℕ) → KeepsNodes old new → tail < length old → x < length old
-    → TestsField test first width old tail x → TestsField test first width new tail x
-field_kept test first width old new tail x kept tail_there there tests bits n are =
-    kept.same x there bits ∙ tests bits n are ∙ ap (λ b. test n && b) (sym (kept.same tail tail_there bits))
-
-pub starts_kept : (old new : List View) (bit x : ℕ) → KeepsNodes old new → StartsAt old bit x → StartsAt new bit x
-starts_kept old new bit x kept s = record { there = kept.there x s.there; from = rw (kept.bit x s.there) s.from }
-
 -- ---- the fields of a header
 
 -- a field of it, with those before and those after
@@ -113,7 +125,7 @@ field_bits h before after width n l e = record {
   each = λ i inside. ap (λ m. m == 1) (ap (λ bits. slice_index_or bits (width_of before + i) 0) e ∙ bits_in_place before after width n i 0 inside);
 }
 
--- the fields after each
+-- the fields from `dscp` on, and from each before it
 abbrev from_dscp : Header → List (ℕ × ℕ)
 from_dscp h = (6, h.dscp) ∷ []
 
@@ -132,6 +144,7 @@ from_proto h = (8, h.proto) ∷ from_a h
 abbrev from_dst : Header → List (ℕ × ℕ)
 from_dst h = (32, h.dst) ∷ from_proto h
 
+-- the fields one by one
 pub src_bits : (h : Header) → HasWidths h → AreBitsOf (bits_of_header h) 0 32 h.src
 unfolding width_of
 src_bits h w = field_bits h [] (from_dst h) 32 h.src w.src refl

@@ -1,9 +1,8 @@
 -- Earlier views that are kept: the list itself, and one change after another.
-use Rattle.std.proofs.Common.{◌≡◌, ℕ, ◌<◌, List, [], ◌++◌, length, refl, sym, ◌∙◌}
+use Rattle.std.proofs.Common.{List, [], ◌++◌, refl, sym, ◌∙◌}
 use Rattle.std.proofs.lemmas.List.{append-nil, append_assoc}
 use Rattle.np_bdd.specs.declared.views.View.{View}
-use Rattle.np_bdd.specs.Views.{Bits, leads_to_yes}
-use Rattle.np_bdd.specs.Diagram.{bit_at_place, KeepsViews}
+use Rattle.np_bdd.specs.Diagram.{KeepsViews}
 use Rattle.np_bdd.specs.Nodes.{KeepsNodes}
 
 keeps_views_itself : (views : List View) → KeepsViews views views

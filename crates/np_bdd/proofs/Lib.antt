@@ -2,6 +2,7 @@ pub mod AddingLemmas
 pub mod AddressLemmas
 pub mod BitsInOrder
 pub mod BlockHeaders
+pub mod BlockLemmas
 pub mod CanonicalLaws
 pub mod CombiningLemmas
 pub mod EndLemmas
@@ -17,5 +18,6 @@ pub mod PlaceLemmas
 pub mod RangeLemmas
 pub mod SetBits
 pub mod StoreLemmas
+pub mod ValidLemmas
 pub mod WalkLemmas
 pub mod WayLemmas

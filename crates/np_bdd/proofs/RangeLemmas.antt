@@ -12,20 +12,25 @@ use Rattle.np_bdd.proofs.FieldLemmas.{split_field, field_kept}
 
 -- ---- the tests
 
+-- an empty range
 range_none : (low end n : ℕ) → end ≤ low → range_has low end n ≡ false
 range_none low end n e = grind (arith, nat_tests)
 
+-- a whole one
 range_all : (low end n : ℕ) → low ≡ 0 → n < end → range_has low end n ≡ true
 range_all low end n l h = grind (arith, nat_tests)
 
+-- the numbers whose highest bit is clear
 range_below : (half low end n : ℕ) → n < half → range_has low end n ≡ range_has low (min end half) n
 range_below half low end n l = grind (arith, nat_tests)
 
+-- those where it is set
 range_above : (half low end n : ℕ) → n < half → range_has low end (half + n) ≡ range_has (low - half) (end - half) n
 range_above half low end n l = grind (arith, nat_tests)
 
 -- ---- the nodes
 
+-- an empty range needs no test
 pub range_empty : (first width low end : ℕ) (views : List View) (tail x : ℕ) → end ≤ low → first + width ≤ 111 → AlwaysAnswers false views x
     → IsField (range_has low end) first width views tail x
 range_empty first width low end views tail x e fits none = record {
@@ -33,6 +38,7 @@ range_empty first width low end views tail x e fits none = record {
   tests = λ bits n are. none.leads bits ∙ ap (λ b. b && leads_to_yes views bits tail) (sym (range_none low end n e));
 }
 
+-- nor does a whole one
 pub range_whole : (first width low end : ℕ) (views : List View) (tail : ℕ) → low ≡ 0 → end ≡ 2 ^ width → StartsAt views (first + width) tail
     → IsField (range_has low end) first width views tail tail
 range_whole first width low end views tail l e starts = record {
@@ -68,9 +74,11 @@ range_halves first width w low end half below_end rest_low rest_end next last ne
 
 -- ---- spans
 
+-- a span is such a range
 span_same : (s : Span) (low end n : ℕ) → low ≡ s.low → end ≡ s.high + 1 → range_has low end n ≡ span_has s n
 span_same s low end n l e = grind (arith, nat_tests)
 
+-- so is its node
 pub range_of_span : (s : Span) (first width low end : ℕ) (views : List View) (tail x : ℕ) → low ≡ s.low → end ≡ s.high + 1
     → IsField (range_has low end) first width views tail x → TestsField (span_has s) first width views tail x
 range_of_span s first width low end views tail x l e field bits n are =

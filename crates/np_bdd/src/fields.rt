@@ -16,7 +16,7 @@ impl Nodes {
 
     /// The node that tests whether the pattern has the address of 32 bits from the first one on, and
     /// goes on at the tail.
-    #[tactic(auto, using(crate::proofs::KeepingLemmas::keeps_nodes_chained, crate::proofs::AddressLemmas::so_far_start, crate::proofs::AddressLemmas::so_far_more, crate::proofs::AddressLemmas::so_far_end))]
+    #[tactic(auto, using(crate::proofs::KeepingLemmas::keeps_nodes_chained, crate::proofs::AddressLemmas::so_far_more, crate::proofs::AddressLemmas::so_far_end))]
     pub(crate) fn pattern(
         &mut self,
         first: u8,
@@ -36,7 +36,7 @@ impl Nodes {
         Ok(node)
     }
 
-    // One bit of an address more than the node tests, which tests the lowest `k` bits.
+    // A node that tests one bit more than this one, which tests the lowest `k` bits of the address.
     fn pattern_bit(
         &mut self,
         first: u8,

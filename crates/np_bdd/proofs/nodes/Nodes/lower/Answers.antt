@@ -5,27 +5,23 @@ use Rattle.np_space.specs.declared.blocks.Block.{Block}
 use Rattle.np_bdd.specs.declared.views.View.{View}
 use Rattle.np_bdd.specs.Nodes.{KeepsNodes}
 use Rattle.np_bdd.specs.Fields.{HasHeaders}
-use Rattle.np_bdd.proofs.KeepingLemmas.{keeps_nodes_chained}
-use Rattle.np_bdd.proofs.FieldLemmas.{proto_bits, a_bits, b_bits, est_bits, dscp_bits, has_every, has_field}
-use Rattle.np_bdd.proofs.BlockHeaders.{dscp_has, est_has, b_has, a_has, proto_has, lower_all}
+use Rattle.np_bdd.proofs.FieldLemmas.{proto_bits, a_bits, b_bits, est_bits, dscp_bits, has_every, has_field, then_kept}
+use Rattle.np_bdd.proofs.BlockLemmas.{dscp_has, est_has, b_has, a_has, proto_has, lower_all}
 use Rattle.np_bdd.proofs.nodes.Nodes.lower.Goals as goal
 
-after : {first next last : List View} → KeepsNodes first next → KeepsNodes next last → KeepsNodes first last
-after {first = first} {next = next} {last = last} a b = keeps_nodes_chained first next last a b
-
 pub returns-in_err-b-clause-kept : goal.returns-in_err-b-clause-kept
-returns-in_err-b-clause-kept c = after (after c.in_ok-dscp.ensures.kept c.in_ok-est.ensures.kept) c.in_err-b.ensures.kept
+returns-in_err-b-clause-kept c = then_kept (then_kept c.in_ok-dscp.ensures.kept c.in_ok-est.ensures.kept) c.in_err-b.ensures.kept
 
 pub returns-in_err-a-clause-kept : goal.returns-in_err-a-clause-kept
-returns-in_err-a-clause-kept c = after (after (after c.in_ok-dscp.ensures.kept c.in_ok-est.ensures.kept) c.in_ok-b.ensures.kept) c.in_err-a.ensures.kept
+returns-in_err-a-clause-kept c = then_kept (then_kept (then_kept c.in_ok-dscp.ensures.kept c.in_ok-est.ensures.kept) c.in_ok-b.ensures.kept) c.in_err-a.ensures.kept
 
 pub returns-in_err-span-clause-kept : goal.returns-in_err-span-clause-kept
 returns-in_err-span-clause-kept c =
-    after (after (after (after c.in_ok-dscp.ensures.kept c.in_ok-est.ensures.kept) c.in_ok-b.ensures.kept) c.in_ok-a.ensures.kept) c.in_err-span.ensures.kept
+    then_kept (then_kept (then_kept (then_kept c.in_ok-dscp.ensures.kept c.in_ok-est.ensures.kept) c.in_ok-b.ensures.kept) c.in_ok-a.ensures.kept) c.in_err-span.ensures.kept
 
 pub returns-clause-kept : goal.returns-clause-kept
 returns-clause-kept c =
-    after (after (after (after c.in_ok-dscp.ensures.kept c.in_ok-est.ensures.kept) c.in_ok-b.ensures.kept) c.in_ok-a.ensures.kept) c.in_ok-span.ensures.kept
+    then_kept (then_kept (then_kept (then_kept c.in_ok-dscp.ensures.kept c.in_ok-est.ensures.kept) c.in_ok-b.ensures.kept) c.in_ok-a.ensures.kept) c.in_ok-span.ensures.kept
 
 pub returns-clause-exact : goal.returns-clause-exact
 returns-clause-exact c =

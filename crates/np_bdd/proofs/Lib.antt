@@ -1,7 +1,6 @@
 pub mod AddingLemmas
 pub mod AddressLemmas
 pub mod BitsInOrder
-pub mod BlockHeaders
 pub mod BlockLemmas
 pub mod CanonicalLaws
 pub mod CombiningLemmas

@@ -1,10 +1,10 @@
 -- Where bits lead: a step more or less, more views behind the others, and a new test.
-use Rattle.std.proofs.Common.{◌≡◌, ◌≢◌, ℕ, zero, suc, ◌+◌, ◌<◌, ◌≤◌, Bool, true, false, List, [], ◌∷◌, ◌++◌, length, slice_index_or, slice_get, Option, Some, None, refl, sym, ◌∙◌, ap, arith, if◌then◌else◌, ◌⊎◌, inl, inr}
+use Rattle.std.proofs.Common.{◌≡◌, ℕ, zero, suc, ◌+◌, ◌<◌, ◌≤◌, Bool, true, false, List, length, refl, sym, ◌∙◌, ap, arith, if◌then◌else◌, ◌⊎◌, inl, inr}
 use Rattle.np_bdd.specs.declared.views.Node.{Node}
 use Rattle.np_bdd.specs.declared.views.View.{View}
 use Rattle.np_bdd.specs.declared.views.View.TheVariants.{No, Yes, Test}
 use Rattle.np_bdd.specs.Views.{Bits, view_at, sent_by, place_after, is_yes, leads_to_yes}
-use Rattle.np_bdd.specs.Diagram.{bit_of, bit_at_place, IsOrdered, IsOrderedTest, IsDiagram, KeepsViews}
+use Rattle.np_bdd.specs.Diagram.{bit_at_place, IsOrdered, IsDiagram}
 
 -- a step that stays, from a place without a test
 abbrev Stays : List View → Bits → ℕ → Type 0

@@ -1,8 +1,7 @@
 -- What the store's calls keep of its regions, and which headers a node has.
-use Rattle.std.proofs.Common.{◌≡◌, ℕ, ◌<◌, ◌^◌, Bool, true, false, List, length, refl, sym, ◌∙◌, ap, arith, inl, inr}
-use Rattle.std.specs.Prelude.{◌&&◌, ◌⊎◌, nat_lt, IsTrue}
-use Rattle.std.proofs.lemmas.Bool.{and_parts, ltb-true, lt-ltb}
-use Rattle.std.proofs.lemmas.Bool.Decides.{nat_tests}
+use Rattle.std.proofs.Common.{◌≡◌, ◌<◌, Bool, true, false, List, length, refl, sym, ◌∙◌, ap, arith, inl, inr}
+use Rattle.std.specs.Prelude.{◌&&◌, ◌⊎◌}
+use Rattle.std.proofs.lemmas.Bool.{and_parts}
 use Rattle.np_space.specs.Header.{is_valid_header, IsValid, has_widths, HasWidths}
 use Rattle.np_space.specs.declared.headers.Header.{Header}
 use Rattle.np_space.specs.Block.{block_has}
@@ -11,9 +10,9 @@ use Rattle.np_space.proofs.HeaderLemmas.{valid_widths}
 use Rattle.np_region.specs.Keeping.{KeepsRegions}
 use Rattle.np_bdd.specs.declared.views.Node.{Node}
 use Rattle.np_bdd.specs.declared.views.View.{View}
-use Rattle.np_bdd.specs.Views.{Bits, bits_of_header, leads_to_yes, node_has}
-use Rattle.np_bdd.specs.Diagram.{IsRegion, KeepsViews}
-use Rattle.np_bdd.specs.Nodes.{KeepsNodes, StartsAt}
+use Rattle.np_bdd.specs.Views.{bits_of_header, leads_to_yes, node_has}
+use Rattle.np_bdd.specs.Diagram.{IsRegion}
+use Rattle.np_bdd.specs.Nodes.{KeepsNodes}
 use Rattle.np_bdd.specs.Fields.{HasHeaders, AlwaysAnswers}
 use Rattle.np_bdd.specs.declared.combining.Operation.{Operation}
 use Rattle.np_bdd.specs.declared.combining.Operation.TheVariants.{Meet, Minus, Join}

@@ -1,11 +1,11 @@
 -- Ordered reduced decision diagrams.
-use Rattle.std.specs.Prelude.{◌≡◌, ◌≢◌, ℕ, ◌<◌, true, List, [], ◌∷◌, ◌++◌, length, slice_get, Some, IsTrue}
+use Rattle.std.specs.Prelude.{◌≡◌, ◌≢◌, ℕ, ◌<◌, List, ◌++◌, length, slice_get, Some, IsTrue}
 use Rattle.np_space.specs.Header.{IsValid}
 use Rattle.np_space.specs.declared.headers.Header.{Header}
 use Rattle.np_bdd.specs.declared.views.Node.{Node}
 use Rattle.np_bdd.specs.declared.views.View.{View}
 use Rattle.np_bdd.specs.declared.views.View.TheVariants.{No, Yes, Test}
-use Rattle.np_bdd.specs.Views.{Bits, view_at, leads_to_yes, node_has}
+use Rattle.np_bdd.specs.Views.{view_at, node_has}
 
 -- the bit that a view tests; one without a test counts as if it tested a bit past the last
 abbrev pub bit_of : View → ℕ

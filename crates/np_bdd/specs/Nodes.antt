@@ -1,5 +1,5 @@
 -- What the steps of the store's calls say of places, for any bits.
-use Rattle.std.specs.Prelude.{◌≡◌, ℕ, ◌+◌, ◌≤◌, ◌<◌, Bool, List, length, if◌then◌else◌}
+use Rattle.std.specs.Prelude.{◌≡◌, ℕ, ◌+◌, ◌≤◌, ◌<◌, List, length, if◌then◌else◌}
 use Rattle.np_bdd.specs.declared.views.View.{View}
 use Rattle.np_bdd.specs.Views.{Bits, leads_to_yes}
 use Rattle.np_bdd.specs.Diagram.{bit_at_place, KeepsViews}

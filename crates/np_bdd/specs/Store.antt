@@ -1,5 +1,5 @@
 -- What the store's calls keep, and what its node of the valid headers is.
-use Rattle.std.specs.Prelude.{ℕ, ◌<◌, List, Option, IfSome}
+use Rattle.std.specs.Prelude.{List}
 use Rattle.np_space.specs.Header.{is_valid_header}
 use Rattle.np_bdd.specs.declared.views.Node.{Node}
 use Rattle.np_bdd.specs.declared.views.View.{View}

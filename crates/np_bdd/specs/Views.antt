@@ -1,5 +1,5 @@
 -- What stands at the places of a diagram, and where bits lead.
-use Rattle.std.specs.Prelude.{◌≡◌, ℕ, zero, suc, Bool, true, false, ◌==◌, ◌&&◌, List, [], ◌∷◌, ◌++◌, length, slice_index_or, if◌then◌else◌}
+use Rattle.std.specs.Prelude.{ℕ, zero, suc, Bool, true, false, ◌==◌, ◌&&◌, List, slice_index_or, if◌then◌else◌}
 use Rattle.np_space.specs.Bits.{header_bits}
 use Rattle.np_space.specs.Header.{has_widths}
 use Rattle.np_space.specs.declared.headers.Header.{Header}

@@ -1,6 +1,5 @@
-use Rattle.std.proofs.Common.{rules, ◌≡◌, ℕ, ◌+◌, ◌-◌, ◌<◌, ◌^◌, min, sym, ◌∙◌, ap, arith}
+use Rattle.std.proofs.Common.{◌-◌, ◌<◌, arith}
 use Rattle.np_bdd.specs.Nodes.{KeepsNodes}
-use Rattle.np_bdd.specs.Fields.{IsField, range_has}
 use Rattle.np_bdd.proofs.KeepingLemmas.{keeps_nodes_chained}
 use Rattle.np_bdd.proofs.RangeLemmas.{range_halves}
 use Rattle.np_bdd.proofs.nodes.Nodes.+range.Goals as goal

@@ -1,17 +1,12 @@
-//! Tests of the ground layer: files and output, texts, lines, headers, regions, atoms, sets of atoms
-//! and stacks.
+//! Tests of the ground layer: files and output, texts, lines, headers, sets of atoms and stacks.
 #![tactic(auto)]
 
-#[cfg(test)]
-mod atoms;
 #[cfg(test)]
 mod atomset;
 #[cfg(test)]
 mod lines;
 #[cfg(test)]
 mod outside;
-#[cfg(test)]
-mod region;
 #[cfg(test)]
 mod space;
 #[cfg(test)]

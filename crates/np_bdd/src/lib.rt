@@ -1,0 +1,15 @@
+//! The store whose regions are nodes of one ordered reduced decision diagram.
+#![tactic(auto)]
+
+mod combining;
+mod diagrams;
+mod fields;
+mod header_bits;
+mod memo;
+mod nodes;
+mod valid;
+mod views;
+mod walking;
+
+pub use diagrams::Diagrams;
+pub use views::{Node, View};

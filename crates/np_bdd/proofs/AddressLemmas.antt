@@ -1,5 +1,5 @@
 -- The tests of patterns, bit by bit from the lowest.
-use Rattle.std.proofs.Common.{◌≡◌, ℕ, zero, suc, ◌+◌, ◌-◌, ◌*◌, ◌%◌, ◌<◌, ◌≤◌, ◌^◌, Bool, true, false, List, length, refl, sym, ◌∙◌, ap, arith, nat_lt, if◌then◌else◌}
+use Rattle.std.proofs.Common.{◌≡◌, ℕ, zero, suc, ◌+◌, ◌-◌, ◌*◌, ◌%◌, ◌<◌, ◌^◌, Bool, true, false, List, length, refl, sym, ◌∙◌, ap, arith, if◌then◌else◌}
 use Rattle.std.specs.Prelude.{◌&&◌, ◌||◌, ◌==◌}
 use Rattle.std.specs.Int.{bit_at}
 use Rattle.std.proofs.lemmas.Bool.{lt-ltb}
@@ -9,9 +9,9 @@ use Rattle.np_space.specs.Flag.{same_flag}
 use Rattle.np_space.specs.Ternary.{agrees_at, agrees_below, pattern_has, ternary_has}
 use Rattle.np_space.specs.declared.patterns.Ternary.{Ternary}
 use Rattle.np_bdd.specs.declared.views.View.{View}
-use Rattle.np_bdd.specs.Views.{Bits, leads_to_yes}
+use Rattle.np_bdd.specs.Views.{leads_to_yes}
 use Rattle.np_bdd.specs.Nodes.{KeepsNodes, StartsAt, Chooses}
-use Rattle.np_bdd.specs.Fields.{AreBitsOf, TestsField, AlwaysAnswers, IsField, pattern_below}
+use Rattle.np_bdd.specs.Fields.{TestsField, AlwaysAnswers, IsField, pattern_below}
 use Rattle.np_bdd.proofs.KeepingLemmas.{keeps_nodes_itself, keeps_nodes_chained}
 use Rattle.np_bdd.proofs.FieldLemmas.{bit_of_rest, rest_bits, split_field, field_kept}
 

@@ -1,10 +1,9 @@
 -- No and Yes stand at their places.
-use Rattle.std.proofs.Common.{◌≡◌, ℕ, zero, suc, ◌<◌, ◌≤◌, true, false, List, [], ◌∷◌, length, slice_get, Option, Some, None, arith}
+use Rattle.std.proofs.Common.{◌≡◌, ℕ, zero, suc, ◌<◌, true, false, List, [], ◌∷◌, length, slice_get, Some, arith}
 use Rattle.np_bdd.specs.declared.views.View.{View}
-use Rattle.np_bdd.specs.declared.views.View.TheVariants.{No, Yes, Test}
-use Rattle.np_bdd.specs.Views.{Bits, view_at}
+use Rattle.np_bdd.specs.declared.views.View.TheVariants.{No, Yes}
+use Rattle.np_bdd.specs.Views.{view_at}
 use Rattle.np_bdd.specs.Diagram.{IsDiagram}
-use Rattle.np_bdd.specs.Nodes.{StartsAt}
 use Rattle.np_bdd.specs.Fields.{AlwaysAnswers}
 use Rattle.np_bdd.proofs.PlaceLemmas.{leads_at_no, leads_at_yes}
 

@@ -1,5 +1,5 @@
 -- The fields of a header among its bits, and what one bit more of a field says of its number.
-use Rattle.std.proofs.Common.{◌≡◌, ℕ, zero, suc, ◌+◌, ◌-◌, ◌*◌, ◌/◌, ◌%◌, ◌<◌, ◌≤◌, ◌^◌, Bool, true, false, List, [], ◌∷◌, ◌++◌, length, slice_index_or, slice_get, Option, Some, None, refl, sym, ◌∙◌, ap, arith, if◌then◌else◌, nat_le, nat_lt}
+use Rattle.std.proofs.Common.{◌≡◌, ℕ, ◌+◌, ◌-◌, ◌*◌, ◌/◌, ◌%◌, ◌<◌, ◌^◌, Bool, true, false, List, [], ◌∷◌, ◌++◌, length, slice_index_or, refl, sym, ◌∙◌, ap, arith, if◌then◌else◌}
 use Rattle.std.specs.Prelude.{◌&&◌, ◌==◌}
 use Rattle.std.specs.Int.{bit_at}
 use Rattle.std.proofs.Math.Nat.{mod-lt, mod-eq_of_lt}
@@ -14,11 +14,9 @@ use Rattle.np_space.specs.declared.headers.Header.{Header}
 use Rattle.np_space.proofs.BitOrderLaws.{bits_in_place}
 use Rattle.np_space.proofs.FlagLemmas.{flag_small}
 use Rattle.np_bdd.specs.declared.views.View.{View}
-use Rattle.np_bdd.specs.declared.views.View.TheVariants.{No, Yes, Test}
-use Rattle.np_bdd.specs.Views.{Bits, bits_of_header, view_at, leads_to_yes}
-use Rattle.np_bdd.specs.Diagram.{bit_at_place, IsDiagram}
+use Rattle.np_bdd.specs.Views.{Bits, bits_of_header, leads_to_yes}
 use Rattle.np_bdd.specs.Nodes.{KeepsNodes, StartsAt, Chooses}
-use Rattle.np_bdd.specs.Fields.{AreBitsOf, TestsField, HasHeaders, AlwaysAnswers, IsField, range_has}
+use Rattle.np_bdd.specs.Fields.{AreBitsOf, TestsField, HasHeaders, AlwaysAnswers}
 use Rattle.np_bdd.proofs.KeepingLemmas.{keeps_nodes_chained}
 
 -- ---- one bit of a field

@@ -1,13 +1,13 @@
 -- The tests of ranges, by the highest bit of the number.
-use Rattle.std.proofs.Common.{◌≡◌, ℕ, ◌+◌, ◌-◌, ◌<◌, ◌≤◌, ◌^◌, Bool, true, false, List, length, sym, ◌∙◌, ap, arith, min, nat_le, nat_lt}
+use Rattle.std.proofs.Common.{◌≡◌, ℕ, ◌+◌, ◌-◌, ◌<◌, ◌≤◌, ◌^◌, true, false, List, length, sym, ◌∙◌, ap, arith, min}
 use Rattle.std.specs.Prelude.{◌&&◌}
 use Rattle.std.proofs.lemmas.Bool.Decides.{nat_tests}
 use Rattle.np_space.specs.Span.{span_has}
 use Rattle.np_space.specs.declared.spans.Span.{Span}
 use Rattle.np_bdd.specs.declared.views.View.{View}
-use Rattle.np_bdd.specs.Views.{Bits, leads_to_yes}
+use Rattle.np_bdd.specs.Views.{leads_to_yes}
 use Rattle.np_bdd.specs.Nodes.{KeepsNodes, StartsAt, Chooses}
-use Rattle.np_bdd.specs.Fields.{AreBitsOf, TestsField, AlwaysAnswers, IsField, range_has}
+use Rattle.np_bdd.specs.Fields.{TestsField, AlwaysAnswers, IsField, range_has}
 use Rattle.np_bdd.proofs.FieldLemmas.{split_field, field_kept}
 
 -- ---- the tests

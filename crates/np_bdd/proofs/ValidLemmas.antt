@@ -1,5 +1,5 @@
 -- The headers of combined places, and those of blocks that are joined one after another.
-use Rattle.std.proofs.Common.{◌≡◌, ℕ, zero, suc, ◌+◌, ◌<◌, ◌≤◌, ◌^◌, Bool, true, false, List, [], ◌∷◌, length, take, get_or, refl, sym, ◌∙◌, ap, arith}
+use Rattle.std.proofs.Common.{◌≡◌, ℕ, ◌+◌, ◌<◌, ◌≤◌, ◌^◌, Bool, true, false, List, [], ◌∷◌, length, take, get_or, refl, sym, ◌∙◌, ap, arith}
 use Rattle.std.specs.Prelude.{◌&&◌, ◌||◌, map}
 use Rattle.std.specs.List.{list_any}
 use Rattle.std.proofs.lemmas.Bool.{lt-ltb}
@@ -16,8 +16,7 @@ use Rattle.np_space.specs.declared.blocks.Block.{Block}
 use Rattle.np_space.proofs.MadeLemmas.{widest_has}
 use Rattle.np_bdd.specs.declared.views.View.{View}
 use Rattle.np_bdd.specs.declared.combining.Operation.{Operation}
-use Rattle.np_bdd.specs.declared.combining.Operation.TheVariants.{Meet, Minus, Join}
-use Rattle.np_bdd.specs.Views.{bits_of_header, leads_to_yes}
+use Rattle.np_bdd.specs.Views.{bits_of_header}
 use Rattle.np_bdd.specs.Combining.{combined, IsCombined}
 use Rattle.np_bdd.specs.Nodes.{KeepsNodes, StartsAt}
 use Rattle.np_bdd.specs.Fields.{AlwaysAnswers, HasHeaders, lower_has}

@@ -1,19 +1,13 @@
-use Rattle.std.proofs.Common.{rules, ◌≡◌, ℕ, ◌+◌, ◌-◌, ◌<◌, ◌^◌, min, sym, ◌∙◌, ap, arith}
-use Rattle.np_bdd.specs.Nodes.{KeepsNodes}
-use Rattle.np_bdd.specs.Fields.{IsField, range_has}
-use Rattle.np_bdd.proofs.KeepingLemmas.{keeps_nodes_chained}
+use Rattle.std.proofs.Common.{◌-◌, ◌<◌, min, arith}
+use Rattle.np_bdd.proofs.FieldLemmas.{then_kept}
 use Rattle.np_bdd.proofs.RangeLemmas.{range_halves}
 use Rattle.np_bdd.proofs.nodes.Nodes.+range.Goals as goal
 
 pub returns-in_err-node-clause-kept : goal.returns-in_err-node-clause-kept
-returns-in_err-node-clause-kept t c =
-    let kept : KeepsNodes c.args.self.now c.range-2.new.self = keeps_nodes_chained c.args.self.now c.range.new.self c.range-2.new.self c.in_ok-zeros.ensures.kept c.in_ok-ones.ensures.kept in
-    keeps_nodes_chained c.args.self.now c.range-2.new.self c.node.new.self kept c.in_err-node.ensures.kept
+returns-in_err-node-clause-kept t c = then_kept (then_kept c.in_ok-zeros.ensures.kept c.in_ok-ones.ensures.kept) c.in_err-node.ensures.kept
 
 pub returns-clause-kept : goal.returns-clause-kept
-returns-clause-kept t c =
-    let kept : KeepsNodes c.args.self.now c.range-2.new.self = keeps_nodes_chained c.args.self.now c.range.new.self c.range-2.new.self c.in_ok-zeros.ensures.kept c.in_ok-ones.ensures.kept in
-    keeps_nodes_chained c.args.self.now c.range-2.new.self c.node.new.self kept c.in_ok-node.ensures.kept
+returns-clause-kept t c = then_kept (then_kept c.in_ok-zeros.ensures.kept c.in_ok-ones.ensures.kept) c.in_ok-node.ensures.kept
 
 pub returns-clause-is : goal.returns-clause-is
 returns-clause-is t c =

@@ -1,12 +1,10 @@
-use Rattle.std.proofs.Common.{◌≡◌, ℕ, Bool, true, List}
+use Rattle.std.proofs.Common.{true}
 use Rattle.np_space.specs.Flag.{flag_number}
 use Rattle.np_space.specs.Span.{span_has}
 use Rattle.np_space.specs.declared.blocks.Block.{Block}
-use Rattle.np_bdd.specs.declared.views.View.{View}
-use Rattle.np_bdd.specs.Nodes.{KeepsNodes}
 use Rattle.np_bdd.specs.Fields.{HasHeaders}
 use Rattle.np_bdd.proofs.FieldLemmas.{proto_bits, a_bits, b_bits, est_bits, dscp_bits, has_every, has_field, then_kept}
-use Rattle.np_bdd.proofs.BlockLemmas.{dscp_has, est_has, b_has, a_has, proto_has, lower_all}
+use Rattle.np_bdd.proofs.BlockLemmas.{dscp_has, est_has, b_has, a_has, lower_all}
 use Rattle.np_bdd.proofs.nodes.Nodes.lower.Goals as goal
 
 pub returns-in_err-b-clause-kept : goal.returns-in_err-b-clause-kept

@@ -1,4 +1,4 @@
-use Rattle.std.proofs.Common.{◌≡◌, ℕ, arith}
+use Rattle.std.proofs.Common.{◌≡◌, arith}
 use Rattle.np_bdd.proofs.AddressLemmas.{so_far_start, so_far_end}
 use Rattle.np_bdd.proofs.nodes.Nodes.pattern.Goals as goal
 

@@ -1,4 +1,4 @@
-use Rattle.std.proofs.Common.{◌≡◌, ℕ, ◌+◌, arith}
+use Rattle.std.proofs.Common.{◌+◌, arith}
 use Rattle.np_bdd.proofs.RangeLemmas.{range_of_span}
 use Rattle.np_bdd.proofs.nodes.Nodes.span.Goals as goal
 

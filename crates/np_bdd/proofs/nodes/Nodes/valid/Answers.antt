@@ -1,4 +1,4 @@
-use Rattle.std.proofs.Common.{◌≡◌, ℕ, ◌+◌, ◌<◌, ◌≤◌, length, take, arith}
+use Rattle.std.proofs.Common.{take, arith}
 use Rattle.np_bdd.proofs.ValidLemmas.{any_lower, joined_more, joined_all}
 use Rattle.np_bdd.proofs.nodes.Nodes.valid.Goals as goal
 

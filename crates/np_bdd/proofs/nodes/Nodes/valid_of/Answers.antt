@@ -1,11 +1,9 @@
-use Rattle.std.proofs.Common.{◌≡◌, ℕ, List}
 use Rattle.std.specs.Prelude.{◌&&◌}
 use Rattle.np_space.specs.Header.{is_valid_header}
 use Rattle.np_space.specs.Ternary.{ternary_has}
 use Rattle.np_space.specs.declared.blocks.Block.{Block}
 use Rattle.np_bdd.specs.declared.combining.Operation.TheVariants.{Meet}
-use Rattle.np_bdd.specs.declared.views.View.{View}
-use Rattle.np_bdd.specs.Nodes.{KeepsNodes, StartsAt}
+use Rattle.np_bdd.specs.Nodes.{StartsAt}
 use Rattle.np_bdd.specs.Fields.{HasHeaders, lower_has}
 use Rattle.np_bdd.proofs.FieldLemmas.{src_bits, dst_bits, starts_kept, headers_kept, has_field, then_kept}
 use Rattle.np_bdd.proofs.BlockLemmas.{dst_has, block_all}

@@ -1,4 +1,4 @@
-use Rattle.std.proofs.Common.{◌-◌, ◌<◌, min, arith}
+use Rattle.std.proofs.Common.{◌-◌, ◌<◌, arith}
 use Rattle.np_bdd.proofs.FieldLemmas.{then_kept}
 use Rattle.np_bdd.proofs.RangeLemmas.{range_halves}
 use Rattle.np_bdd.proofs.nodes.Nodes.+range.Goals as goal

@@ -56,7 +56,7 @@ fn main(rt: HostRuntime) -> Result<(), io::Error> {
     let alloc = rt.alloc();
     for file in env::args(&rt)?.skip(1) {
         let text = fs::read_to_string(&rt, file.as_str())?;
-        print!(&rt; "{}", answer(alloc, text.as_bytes())?);
+        print!(&rt; "{}", answer(alloc, text.as_bytes())?)?;
     }
     Ok(())
 }

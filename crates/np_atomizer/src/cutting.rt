@@ -132,7 +132,8 @@ fn set_of<S: Regions>(
 {
     let mut set = AtomSet::new(alloc, atoms.len())?;
     for (n, atom) in atoms.iter().enumerate() {
-        if store.has(cut, &atom.least) {
+        let inside = store.has(cut, &atom.least);
+        if inside {
             set.insert(n);
         }
     }

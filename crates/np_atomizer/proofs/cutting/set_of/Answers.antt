@@ -6,7 +6,7 @@ use Rattle.np_atomizer.specs.declared.atom_list.Atom.{Atom}
 use Rattle.np_atomizer.proofs.AtomLaws.{least_at}
 use Rattle.np_atomizer.proofs.SetLaws.{set_in, set_out, set_all}
 use Rattle.np_atomizer.proofs.cutting.set_of.Goals as goal
-use Rattle.np_atomizer.proofs.cutting.set_of.Goals.{then-has, else-has}
+use Rattle.np_atomizer.proofs.cutting.set_of.Goals.{then-inside, else-inside}
 
 pub loop-n-preserved : goal.loop-n-preserved
 loop-n-preserved g c =
@@ -18,9 +18,9 @@ loop-n-preserved g c =
     let here : (d : Header) → get_or (leasts_of atoms) n d ≡ x =
     λ d. least_at atoms n c.index-atoms-n.result d below c.index-atoms-n.is in
     let within : n < length (leasts_of atoms) = omega (arith, length-map atoms (λ (a : Atom g.row.S-R.Denot). a.least)) in
-    elim c.if-has.branch [
-      | then-has w ↦ rw w.set-is (rw w.insert.ensures (set_in test (leasts_of atoms) n c.loop-n.set x c.has.result c.loop-n.invariant within here c.has.ensures w.if-has.true))
-      | else-has w ↦ rw w.set-is (set_out test (leasts_of atoms) n c.loop-n.set x c.has.result c.loop-n.invariant here c.has.ensures w.if-has.false)
+    elim c.if-inside.branch [
+      | then-inside w ↦ rw w.set-is (rw w.insert.ensures (set_in test (leasts_of atoms) n c.loop-n.set x c.has-inside.result c.loop-n.invariant within here c.has-inside.ensures w.if-inside.true))
+      | else-inside w ↦ rw w.set-is (set_out test (leasts_of atoms) n c.loop-n.set x c.has-inside.result c.loop-n.invariant here c.has-inside.ensures w.if-inside.false)
     ]
 
 pub returns : goal.returns

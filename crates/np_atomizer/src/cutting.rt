@@ -159,8 +159,8 @@ fn sets_of<S: Regions>(
 
 /// The atoms of the cuts (Guttman and Herzog 2005, the Atomizer): the classes of the valid headers for which each cut answers the same, in the
 /// order of their least members. Without cuts it is one atom, of all valid headers. Fails only for
-/// want of memory. Each cut must fit the store. It looks at each cut once for each atom so far, and
-/// sorts the atoms at the end; then it looks at each cut once more for each atom.
+/// want of memory. Each cut must fit the store. It looks at each cut once for each atom so far, sorts
+/// the atoms, and then looks at each cut once more for each atom.
 pub fn atomize<S: Regions>(
     alloc: Global,
     store: &mut S,

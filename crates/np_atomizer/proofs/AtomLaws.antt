@@ -10,17 +10,22 @@ use Rattle.std.proofs.lemmas.List.{map-append, length-map, get_or-map as get_or_
 use Rattle.std.proofs.lemmas.List.Elements.{All-nil, All-head, All-tail, All-push, All-map, All-weaker, recursion_from_All}
 use Rattle.std.proofs.lemmas.List.Sorted.{All-permutation, IsPermutation-map, sum_by-IsPermutation, sorted_far, ranks_by}
 use Rattle.np_space.specs.Flag.{flag_number}
-use Rattle.np_space.specs.Classes.{cuts_say, IsAlike, IsLeastAlike, HasAlike}
-use Rattle.np_space.specs.Header.{is_valid_header, IsValid, IsLeast, header_order, zeros}
+use Rattle.np_atomset.specs.AtomSet.{has_member}
+use Rattle.np_space.specs.Classes.{IsAlike, IsLeastAlike, HasAlike}
+use Rattle.np_space.specs.Header.{is_valid_header, IsValid, IsLeast, header_order}
 use Rattle.np_space.specs.declared.headers.Header.{Header}
 use Rattle.np_space.proofs.ClassLaws.{before_from_distinct}
 use Rattle.np_space.proofs.FlagLemmas.{flag_small}
 use Rattle.np_space.proofs.HeaderLemmas.{order_total}
 use Rattle.np_region.specs.Keeping.{KeepsRegions, EachFits, tests_of}
-use Rattle.np_atomizer.specs.Atoms.{regions_of, leasts_of, answers_of, AreAtoms}
+use Rattle.np_atomizer.specs.Atoms.{regions_of, leasts_of, cut_sets, AreAtoms}
 use Rattle.np_atomizer.specs.Splitting.{count_having, HasSome, IsClass, AreClasses, IsRead}
 use Rattle.np_atomizer.specs.declared.atom_list.Atom.{Atom}
 use Rattle.np_atomizer.proofs.SplitLaws.{count_cons}
+
+-- the least member of the n-th atom
+pub least_at : {R : Type 0} (atoms : List (Atom R)) (n : ℕ) (a : Atom R) (d : Header) → n < length atoms → a ≡ get_or atoms n a → get_or (leasts_of atoms) n d ≡ a.least
+least_at atoms n a d l at = get_or_inside (λ x. x.least) atoms n a d l ∙ ap (λ x. x.least) (sym at)
 
 -- an element of a list that equals another
 pub item_is : {X : Type 0} (xs ys : List X) (n : ℕ) (x : X) → xs ≡ ys → x ≡ get_or xs n x → x ≡ get_or ys n x
@@ -30,31 +35,31 @@ module _ {S R : Type 0} (fits : S → R → Type 0) (has : S → R → Header �
   -- ---- reading the classes
 
   -- While the classes are read: which regions are left, and which atoms stand already.
-  pub record AreReadTo (s : S) (cuts regions left : List R) (atoms : List (Atom R)) : Type 0 where
+  pub record AreReadTo (s : S) (regions left : List R) (atoms : List (Atom R)) : Type 0 where
     pub fit : EachFits fits s left
     pub some : All (HasSome has s) left
     pub same : regions_of atoms ++ left ≡ regions
-    pub read : All (IsRead has s cuts) atoms
+    pub read : All (IsRead has s) atoms
 
   -- before the first class
-  pub read_none : (s : S) (cuts regions left : List R) (atoms : List (Atom R)) → left ≡ regions → atoms ≡ [] → EachFits fits s regions → All (HasSome has s) regions → AreReadTo s cuts regions left atoms
-  read_none s cuts regions left atoms e p fit some =
-      subst (λ l. AreReadTo s cuts regions l atoms) (sym e) (subst (λ l. AreReadTo s cuts regions regions l) (sym p) (record {
+  pub read_none : (s : S) (regions left : List R) (atoms : List (Atom R)) → left ≡ regions → atoms ≡ [] → EachFits fits s regions → All (HasSome has s) regions → AreReadTo s regions left atoms
+  read_none s regions left atoms e p fit some =
+      subst (λ l. AreReadTo s regions l atoms) (sym e) (subst (λ l. AreReadTo s regions regions l) (sym p) (record {
         fit = fit;
         some = some;
         same = refl;
-        read = All-nil (IsRead has s cuts);
+        read = All-nil (IsRead has s);
       }))
 
   -- the next class fits the store and is not empty
-  pub next_fits : (s : S) (cuts regions left rest : List R) (r : R) (atoms : List (Atom R)) → left ≡ r ∷ rest → AreReadTo s cuts regions left atoms → fits s r × HasSome has s r
-  next_fits s cuts regions left rest r atoms e so_far =
+  pub next_fits : (s : S) (regions left rest : List R) (r : R) (atoms : List (Atom R)) → left ≡ r ∷ rest → AreReadTo s regions left atoms → fits s r × HasSome has s r
+  next_fits s regions left rest r atoms e so_far =
       (All-head (fits s) r rest (subst (EachFits fits s) e so_far.fit), All-head (HasSome has s) r rest (subst (All (HasSome has s)) e so_far.some))
 
   -- one class more
-  pub read_more : (s : S) (cuts regions left rest : List R) (r : R) (atoms after : List (Atom R)) (a : Atom R) → left ≡ r ∷ rest → after ≡ atoms ++ a ∷ [] → AreReadTo s cuts regions left atoms → a.region ≡ r → IsRead has s cuts a → AreReadTo s cuts regions rest after
-  read_more s cuts regions left rest r atoms after a e p so_far at read =
-      subst (λ l. AreReadTo s cuts regions rest l) (sym p) (record {
+  pub read_more : (s : S) (regions left rest : List R) (r : R) (atoms after : List (Atom R)) (a : Atom R) → left ≡ r ∷ rest → after ≡ atoms ++ a ∷ [] → AreReadTo s regions left atoms → a.region ≡ r → IsRead has s a → AreReadTo s regions rest after
+  read_more s regions left rest r atoms after a e p so_far at read =
+      subst (λ l. AreReadTo s regions rest l) (sym p) (record {
         fit = All-tail (fits s) r rest (subst (EachFits fits s) e so_far.fit);
         some = All-tail (HasSome has s) r rest (subst (All (HasSome has s)) e so_far.some);
         same =
@@ -63,23 +68,25 @@ module _ {S R : Type 0} (fits : S → R → Type 0) (has : S → R → Header �
             ∙ (λ i. regions_of atoms ++ at i ∷ rest)
             ∙ ap (λ l. regions_of atoms ++ l) (sym e)
             ∙ so_far.same;
-        read = All-push (IsRead has s cuts) atoms a so_far.read read;
+        read = All-push (IsRead has s) atoms a so_far.read read;
       })
 
   -- after the last class
-  pub read_all : (s : S) (cuts regions left : List R) (atoms : List (Atom R)) → length left ≡ 0 → AreReadTo s cuts regions left atoms → regions_of atoms ≡ regions
-  read_all s cuts regions [] atoms none so_far = sym (append-nil (regions_of atoms)) ∙ so_far.same
+  pub read_all : (s : S) (regions left : List R) (atoms : List (Atom R)) → length left ≡ 0 → AreReadTo s regions left atoms → regions_of atoms ≡ regions
+  read_all s regions [] atoms none so_far = sym (append-nil (regions_of atoms)) ∙ so_far.same
     where
       append-nil : (xs : List R) → xs ++ [] ≡ xs
       append-nil [] = refl
       append-nil (x ∷ xs) = ap (λ l. x ∷ l) (append-nil xs)
-  read_all s cuts regions (r ∷ left) atoms none so_far = absurd (omega arith)
+  read_all s regions (r ∷ left) atoms none so_far = absurd (omega arith)
 
-  -- what the cuts say as tests of the store before they were cut
-  answers_said : (old s : S) (cuts : List R) (h : Header) → KeepsRegions fits has old s → EachFits fits old cuts → map (λ cut. has s cut h) cuts ≡ cuts_say (tests_of has old cuts) h
-  answers_said old s [] h k each = refl
-  answers_said old s (cut ∷ cuts) h k each =
-      λ i. k.same cut (All-head (fits old) cut cuts each) h i ∷ answers_said old s cuts h k (All-tail (fits old) cut cuts each) i
+  -- ---- the sets of the cuts
+
+  -- they are those that the cuts had in the store before
+  sets_same : (old s : S) (cuts : List R) (leasts : List Header) → KeepsRegions fits has old s → EachFits fits old cuts → cut_sets (tests_of has s cuts) leasts ≡ cut_sets (tests_of has old cuts) leasts
+  sets_same old s [] leasts k each = refl
+  sets_same old s (cut ∷ cuts) leasts k each =
+      λ i. map (λ h. k.same cut (All-head (fits old) cut cuts each) h i) leasts ∷ sets_same old s cuts leasts k (All-tail (fits old) cut cuts each) i
 
   -- ---- how many atoms have a header
 
@@ -158,25 +165,16 @@ module _ {S R : Type 0} (fits : S → R → Type 0) (has : S → R → Header �
   pub record IsAtom (s : S) (tests : List (Header → Bool)) (a : Atom R) : Type 0 where
     pub class : IsClass fits has s tests a.region
     pub least : IsLeast (has s a.region) a.least
-    pub answers : a.answers.items ≡ cuts_say tests a.least
 
   -- what is read of classes is atoms
-  all_atoms : (s : S) (tests : List (Header → Bool)) (cuts : List R) (atoms : List (Atom R)) → ((h : Header) → map (λ cut. has s cut h) cuts ≡ cuts_say tests h) → All (IsClass fits has s tests) (regions_of atoms) → All (IsRead has s cuts) atoms → All (IsAtom s tests) atoms
-  all_atoms s tests cuts atoms said classes read = λ k d l.
+  all_atoms : (s : S) (tests : List (Header → Bool)) (atoms : List (Atom R)) → All (IsClass fits has s tests) (regions_of atoms) → All (IsRead has s) atoms → All (IsAtom s tests) atoms
+  all_atoms s tests atoms classes read = λ k d l.
       let a = get_or atoms k d in
       let at : get_or (regions_of atoms) k d.region ≡ a.region = get_or-map (λ x. x.region) atoms k d in
-      let one = read k d l in
       record {
         class = subst (IsClass fits has s tests) at (classes k d.region (subst (λ n. k < n) (sym (length-map atoms (λ (x : Atom R). x.region))) l));
-        least = one.least;
-        answers = one.answers ∙ said a.least;
+        least = read k d l;
       }
-
-  -- their answers are what the cuts say of their least members
-  answers_are : (s : S) (tests : List (Header → Bool)) (atoms : List (Atom R)) → All (IsAtom s tests) atoms → answers_of atoms ≡ map (cuts_say tests) (leasts_of atoms)
-  answers_are s tests [] all = refl
-  answers_are s tests (a ∷ atoms) all =
-      λ i. (All-head (IsAtom s tests) a atoms all).answers i ∷ answers_are s tests atoms (All-tail (IsAtom s tests) a atoms all) i
 
   module _ (valid : (s : S) (r : R) (h : Header) → fits s r → IsTrue (has s r h) → IsValid h) where
     -- the least member of an atom is the least that is alike
@@ -188,8 +186,8 @@ module _ {S R : Type 0} (fits : S → R → Type 0) (has : S → R → Header �
         }
 
     -- sorted atoms are the atoms of the tests
-    pub atoms_in_order : (s : S) (tests : List (Header → Bool)) (atoms : List (Atom R)) → All (IsAtom s tests) atoms → ((h : Header) → count_having has s (regions_of atoms) h ≡ flag_number (is_valid_header h)) → IsSortedBy (λ x y. is_lt (header_order x.least y.least)) atoms → AreAtoms fits has s tests atoms
-    atoms_in_order s tests atoms all count sorted =
+    pub atoms_in_order : (s : S) (tests : List (Header → Bool)) (atoms : List (Atom R)) (sets : List (List Bool)) → sets ≡ cut_sets tests (leasts_of atoms) → All (IsAtom s tests) atoms → ((h : Header) → count_having has s (regions_of atoms) h ≡ flag_number (is_valid_header h)) → IsSortedBy (λ x y. is_lt (header_order x.least y.least)) atoms → AreAtoms fits has s tests atoms sets
+    atoms_in_order s tests atoms sets said all count sorted =
         record {
           cover = record {
             fit = All-map (fits s) (λ x. x.region) atoms (All-weaker (IsAtom s tests) (λ x. fits s x.region) (λ a p. p.class.fit) atoms all);
@@ -200,7 +198,7 @@ module _ {S R : Type 0} (fits : S → R → Type 0) (has : S → R → Header �
             ascending = ascend s atoms (pairs_from_sorted atoms sorted) (λ h. let c = count h in let f = flag_small (is_valid_header h) in omega arith) (All-weaker (IsAtom s tests) (λ x. has s x.region x.least ≡ true) (λ a p. p.least.has) atoms all);
             reached = reached;
           };
-          answers = answers_are s tests atoms all;
+          sets = said;
           exact = All-weaker (IsAtom s tests) (λ x. (h : Header) → (IsTrue (has s x.region h) → IsValid h × IsAlike tests x.least h) × (IsValid h × IsAlike tests x.least h → IsTrue (has s x.region h))) exact_one atoms all;
         }
       where
@@ -228,12 +226,12 @@ module _ {S R : Type 0} (fits : S → R → Type 0) (has : S → R → Header �
         )
 
     -- the atoms that are read of the classes, once they are sorted
-    pub atoms_sorted : (old s : S) (cuts classes : List R) (before after : List (Atom R)) → EachFits fits old cuts → KeepsRegions fits has old s → AreClasses fits has s (tests_of has old cuts) classes → regions_of before ≡ classes → All (IsRead has s cuts) before → IsPermutation before after → IsSortedBy (λ x y. is_lt (header_order x.least y.least)) after → AreAtoms fits has s (tests_of has old cuts) after
-    atoms_sorted old s cuts classes before after fc k are same read moved sorted =
+    pub atoms_sorted : (old s : S) (cuts classes : List R) (before after : List (Atom R)) (sets : List (List Bool)) → EachFits fits old cuts → KeepsRegions fits has old s → AreClasses fits has s (tests_of has old cuts) classes → regions_of before ≡ classes → All (IsRead has s) before → IsPermutation before after → IsSortedBy (λ x y. is_lt (header_order x.least y.least)) after → sets ≡ cut_sets (tests_of has s cuts) (leasts_of after) → AreAtoms fits has s (tests_of has old cuts) after sets
+    atoms_sorted old s cuts classes before after sets fc k are same read moved sorted said =
         let tests = tests_of has old cuts in
         let all : All (IsAtom s tests) before =
-        all_atoms s tests cuts before (λ h. answers_said old s cuts h k fc) (subst (All (IsClass fits has s tests)) (sym same) are.each) read in
-        atoms_in_order s tests after (All-permutation (IsAtom s tests) before after moved all)
+        all_atoms s tests before (subst (All (IsClass fits has s tests)) (sym same) are.each) read in
+        atoms_in_order s tests after sets (said ∙ sets_same old s cuts (leasts_of after) k fc) (All-permutation (IsAtom s tests) before after moved all)
         (λ h.
         sum_by-IsPermutation (λ r. flag_number (has s r h)) (regions_of before) (regions_of after) (IsPermutation-map (λ x. x.region) before after moved)
         ∙ ap (λ l. count_having has s l h) same
@@ -248,30 +246,30 @@ module _ {S R : Type 0} (fits : S → R → Type 0) (has : S → R → Header �
       subst (fits s) (get_or-map (λ x. x.region) atoms n a ∙ ap (λ x. x.region) (sym at)) (each n a.region (subst (λ k. n < k) (sym (length-map atoms (λ (x : Atom R). x.region))) l))
 
   -- and its least member is alike
-  pub alike_found : (s : S) (atoms : List (Atom R)) (n : ℕ) (a : Atom R) (h : Header) → n < length atoms → a ≡ get_or atoms n a → (answer : Bool) → answer ≡ has s a.region h → answer ≡ true → (tests : List (Header → Bool)) → AreAtoms fits has s tests atoms → (d : Header) → IsAlike tests (get_or (leasts_of atoms) n d) h
-  alike_found s atoms n a h l at answer e p tests are d =
+  pub alike_found : (s : S) (atoms : List (Atom R)) (n : ℕ) (a : Atom R) (h : Header) → n < length atoms → a ≡ get_or atoms n a → (answer : Bool) → answer ≡ has s a.region h → answer ≡ true → (tests : List (Header → Bool)) (sets : List (List Bool)) → AreAtoms fits has s tests atoms sets → (d : Header) → IsAlike tests (get_or (leasts_of atoms) n d) h
+  alike_found s atoms n a h l at answer e p tests sets are d =
       let exact = are.exact n a l h in
       let alike = (exact.0 (ap (λ x. has s x.region h) (sym at) ∙ sym e ∙ p)).1 in
       subst (λ x. IsAlike tests x h) (sym (get_or_inside (λ (x : Atom R). x.least) atoms n a d l)) alike
 
   -- ---- for callers
 
-  -- the answers of the n-th atom
-  answers_at : (s : S) (tests : List (Header → Bool)) (atoms : List (Atom R)) (n : ℕ) → AreAtoms fits has s tests atoms → n < length atoms → (d : Header) → get_or (answers_of atoms) n [] ≡ cuts_say tests (get_or (leasts_of atoms) n d)
-  answers_at s tests atoms n are l d =
-      ap (λ xs. get_or xs n []) are.answers
-      ∙ get_or_inside (cuts_say tests) (leasts_of atoms) n d [] (subst (λ m. n < m) (sym (length-map atoms (λ (x : Atom R). x.least))) l)
+  -- the set of the k-th cut
+  set_at : (s : S) (tests : List (Header → Bool)) (atoms : List (Atom R)) (sets : List (List Bool)) (k : ℕ) (e : Header → Bool) → AreAtoms fits has s tests atoms sets → k < length tests → get_or sets k [] ≡ map (get_or tests k e) (leasts_of atoms)
+  set_at s tests atoms sets k e are l =
+      ap (λ xs. get_or xs k []) are.sets
+      ∙ get_or_inside (λ (test : Header → Bool). map test (leasts_of atoms)) tests k e [] l
 
   -- the atoms stay atoms over calls that keep the regions
-  pub atoms_kept : (s t : S) (tests : List (Header → Bool)) (atoms : List (Atom R)) → KeepsRegions fits has s t → AreAtoms fits has s tests atoms → AreAtoms fits has t tests atoms
-  atoms_kept s t tests atoms k are =
+  pub atoms_kept : (s t : S) (tests : List (Header → Bool)) (atoms : List (Atom R)) (sets : List (List Bool)) → KeepsRegions fits has s t → AreAtoms fits has s tests atoms sets → AreAtoms fits has t tests atoms sets
+  atoms_kept s t tests atoms sets k are =
       record {
         cover = record {
           fit = λ n d l. k.fit (get_or (regions_of atoms) n d) (are.cover.fit n d l);
           some = λ h v. let f = are.cover.some h v in (f.0, f.1, f.2, f.3, same f.0 f.1 h f.2 f.3 ∙ f.4);
         };
         leasts = are.leasts;
-        answers = are.answers;
+        sets = are.sets;
         exact = λ n d l h.
             let a = get_or atoms n d in
             let at = n_th n d l in
@@ -284,24 +282,33 @@ module _ {S R : Type 0} (fits : S → R → Type 0) (has : S → R → Header �
       same : (n : ℕ) (a : Atom R) (h : Header) → n < length atoms → get_or atoms n a ≡ a → has t a.region h ≡ has s a.region h
       same n a h l at = k.same a.region (subst (λ x. fits s x.region) at (n_th n a l)) h
 
-  -- each atom has an answer for each cut
-  pub answers_counted : (s : S) (tests : List (Header → Bool)) (atoms : List (Atom R)) (n : ℕ) → AreAtoms fits has s tests atoms → n < length atoms → length (get_or (answers_of atoms) n []) ≡ length tests
-  answers_counted s tests atoms n are l = ap length (answers_at s tests atoms n are l zeros) ∙ length-map tests (λ test. test (get_or (leasts_of atoms) n zeros))
+  -- there is a set for each cut, and each is a set of the atoms
+  pub sets_counted : (s : S) (tests : List (Header → Bool)) (atoms : List (Atom R)) (sets : List (List Bool)) → AreAtoms fits has s tests atoms sets → (length sets ≡ length tests) × ((k : ℕ) → k < length sets → length (get_or sets k []) ≡ length atoms)
+  sets_counted s tests atoms sets are = (
+    counted,
+    λ k l.
+        ap length (set_at s tests atoms sets k (λ h. false) are (subst (λ n. k < n) counted l))
+        ∙ length-map (leasts_of atoms) (get_or tests k (λ h. false))
+        ∙ length-map atoms (λ (x : Atom R). x.least),
+  )
+    where
+      counted : length sets ≡ length tests
+      counted = ap length are.sets ∙ length-map tests (λ test. map test (leasts_of atoms))
 
-  -- which is the cut's test of the atom's least member
-  pub answer_said : (s : S) (tests : List (Header → Bool)) (atoms : List (Atom R)) (n k : ℕ) (d : Header) (e : Header → Bool) → AreAtoms fits has s tests atoms → n < length atoms → k < length tests → get_or (get_or (answers_of atoms) n []) k false ≡ get_or tests k e (get_or (leasts_of atoms) n d)
-  answer_said s tests atoms n k d e are l m =
-      ap (λ xs. get_or xs k false) (answers_at s tests atoms n are l d)
-      ∙ get_or_inside (λ (test : Header → Bool). test (get_or (leasts_of atoms) n d)) tests k e false m
+  -- which has an atom where the cut has the atom's least member
+  pub answer_said : (s : S) (tests : List (Header → Bool)) (atoms : List (Atom R)) (sets : List (List Bool)) (n k : ℕ) (d : Header) (e : Header → Bool) → AreAtoms fits has s tests atoms sets → n < length atoms → k < length tests → has_member (get_or sets k []) n ≡ get_or tests k e (get_or (leasts_of atoms) n d)
+  answer_said s tests atoms sets n k d e are l m =
+      ap (λ xs. get_or xs n false) (set_at s tests atoms sets k e are m)
+      ∙ get_or_inside (get_or tests k e) (leasts_of atoms) n d false (subst (λ j. n < j) (sym (length-map atoms (λ (x : Atom R). x.least))) l)
 
   -- the n-th region fits the store
-  pub region_in_store : (s : S) (tests : List (Header → Bool)) (atoms : List (Atom R)) (n : ℕ) (r : R) → AreAtoms fits has s tests atoms → n < length atoms → ((d : R) → r ≡ get_or (regions_of atoms) n d) → fits s r
-  region_in_store s tests atoms n r are l at =
+  pub region_in_store : (s : S) (tests : List (Header → Bool)) (atoms : List (Atom R)) (sets : List (List Bool)) (n : ℕ) (r : R) → AreAtoms fits has s tests atoms sets → n < length atoms → ((d : R) → r ≡ get_or (regions_of atoms) n d) → fits s r
+  region_in_store s tests atoms sets n r are l at =
       subst (fits s) (sym (at r)) (are.cover.fit n r (subst (λ k. n < k) (sym (length-map atoms (λ (x : Atom R). x.region))) l))
 
   -- and has exactly the valid headers that are alike to the n-th least member
-  pub region_is_class : (s : S) (tests : List (Header → Bool)) (atoms : List (Atom R)) (n : ℕ) (r : R) (x h : Header) → AreAtoms fits has s tests atoms → n < length atoms → ((d : R) → r ≡ get_or (regions_of atoms) n d) → ((d : Header) → x ≡ get_or (leasts_of atoms) n d) → IsTrue (has s r h) ↔ (IsValid h × IsAlike tests x h)
-  region_is_class s tests atoms n r x h are l at is =
+  pub region_is_class : (s : S) (tests : List (Header → Bool)) (atoms : List (Atom R)) (sets : List (List Bool)) (n : ℕ) (r : R) (x h : Header) → AreAtoms fits has s tests atoms sets → n < length atoms → ((d : R) → r ≡ get_or (regions_of atoms) n d) → ((d : Header) → x ≡ get_or (leasts_of atoms) n d) → IsTrue (has s r h) ↔ (IsValid h × IsAlike tests x h)
+  region_is_class s tests atoms sets n r x h are l at is =
       by atoms are.exact l at is
     where
       by : (bs : List (Atom R)) → All (λ a. (h : Header) → IsTrue (has s a.region h) ↔ (IsValid h × IsAlike tests a.least h)) bs → n < length bs → ((d : R) → r ≡ get_or (regions_of bs) n d) → ((d : Header) → x ≡ get_or (leasts_of bs) n d) → IsTrue (has s r h) ↔ (IsValid h × IsAlike tests x h)

@@ -1,2 +1,3 @@
 pub mod SplitLaws
 pub mod AtomLaws
+pub mod SetLaws

@@ -1,5 +1,5 @@
 -- What holds of the classes while they are cut. None of it stands in a public contract.
-use Rattle.std.specs.Prelude.{◌≡◌, ◌++◌, ◌∷◌, [], ℕ, Bool, false, IsTrue, List, map, sum_by}
+use Rattle.std.specs.Prelude.{◌≡◌, ◌++◌, ◌∷◌, [], ℕ, Bool, false, IsTrue, List, sum_by}
 use Rattle.std.specs.List.{All}
 use Rattle.np_space.specs.Flag.{flag_number}
 use Rattle.np_space.specs.Header.{is_valid_header, IsValid, IsLeast}
@@ -40,7 +40,6 @@ pub record HasParts {S R : Type 0} (fits : S → R → Type 0) (has : S → R �
   pub is : after ≡ before ++ more
   pub parts : AreParts fits has old new cut region more
 
--- an atom with its least member, and with what the cuts say of it
-pub record IsRead {S R : Type 0} (has : S → R → Header → Bool) (s : S) (cuts : List R) (a : Atom R) : Type 0 where
-  pub least : IsLeast (has s a.region) a.least
-  pub answers : a.answers.items ≡ map (λ cut. has s cut a.least) cuts
+-- an atom with its least member
+abbrev pub IsRead : {S R : Type 0} → (S → R → Header → Bool) → S → Atom R → Type 0
+IsRead has s a = IsLeast (has s a.region) a.least

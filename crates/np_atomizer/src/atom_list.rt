@@ -1,29 +1,31 @@
 //! The atoms of a list of cuts.
 
-ghost use Rattle.std.specs.Prelude.{◌≡◌, ◌<◌, [], Bool, false, IsTrue, IfOk, List, length, slice_index_or};
+ghost use Rattle.std.specs.Prelude.{◌≡◌, ◌<◌, [], Bool, IsTrue, IfOk, List, length, slice_index_or};
 ghost use Rattle.np_space.specs.Header.{IsValid};
 ghost use Rattle.np_space.specs.declared.headers.Header.{Header};
 ghost use Rattle.np_space.specs.Classes.{IsAlike};
-ghost use Rattle.np_atomizer.specs.Atoms.{atoms_in, regions_of, leasts_of, answers_of, CoverValid, AreAtoms};
+ghost use Rattle.np_atomizer.specs.Atoms.{atoms_in, sets_in, regions_of, leasts_of, CoverValid, AreAtoms};
+ghost use Rattle.np_atomset.specs.AtomSet.{has_member};
 
+use np_atomset::AtomSet;
 use np_region::Regions;
 use np_space::Header;
+use sqlite_items::Items;
 use std::alloc::{AllocError, Global};
 
-// A class of headers that no cut tells apart: its region, its least member, and what each cut
-// answers for its headers.
+// A class of headers that no cut tells apart: its region and its least member.
 #[derive(Drop)]
 pub(crate) struct Atom<R> {
     pub(crate) region: R,
     pub(crate) least: Header,
-    pub(crate) answers: Vec<bool>,
 }
 
 /// The atoms of a list of cuts, numbered from 0 in the order of their least members. Each cut has all
-/// headers of an atom, or none of them.
+/// headers of an atom, or none of them, so that a cut is a set of atoms.
 #[derive(Drop)]
 pub struct Atoms<R> {
     pub(crate) atoms: Vec<Atom<R>>,
+    pub(crate) cuts: Items<AtomSet>,
 }
 
 impl<R: Drop> Atoms<R> {
@@ -42,14 +44,29 @@ impl<R: Drop> Atoms<R> {
         self.atoms[n].least
     }
 
+    /// How many cuts there are.
+    pub fn cuts(&self) -> usize
+        ensures { result ≡ length (sets_in self.now) }
+    {
+        self.cuts.len()
+    }
+
+    /// The atoms that the cut has. Needs the cut's number below the number of cuts.
+    pub fn cut(&self, cut: usize) -> &AtomSet
+        requires { cut < length (sets_in self.now) }
+        ensures { result.now ≡ slice_index_or (sets_in self.now) cut [] }
+    {
+        &self.cuts.as_slice()[cut]
+    }
+
     /// Whether the cut has the headers of atom n. Needs n below the number of atoms, and the cut's
     /// number below the number of cuts.
     pub fn answer(&self, n: usize, cut: usize) -> bool
-        requires atom { n < length (atoms_in self.now) }
-        requires cut { cut < length (slice_index_or (answers_of (atoms_in self.now)) n []) }
-        ensures { result ≡ slice_index_or (slice_index_or (answers_of (atoms_in self.now)) n []) cut false }
+        requires atom { n < length (slice_index_or (sets_in self.now) cut []) }
+        requires cut { cut < length (sets_in self.now) }
+        ensures { result ≡ has_member (slice_index_or (sets_in self.now) cut []) n }
     {
-        self.atoms[n].answers[cut]
+        self.cut(cut).has(n)
     }
 
     /// The region of atom n, which has exactly the atom's headers. Needs n below the number of atoms.
@@ -67,7 +84,7 @@ impl<R: Drop> Atoms<R> {
         requires cover { CoverValid S.fits S.has_header store.now (atoms_in self.now) }
         ensures within { result < length (atoms_in self.now) }
         ensures has { (d : R) → IsTrue (S.has_header store.now (slice_index_or (regions_of (atoms_in self.now)) result d) h.now) }
-        ensures alike { (tests : List (Header → Bool)) → AreAtoms S.fits S.has_header store.now tests (atoms_in self.now) → (d : Header) → IsAlike tests (slice_index_or (leasts_of (atoms_in self.now)) result d) h.now }
+        ensures alike { (tests : List (Header → Bool)) (sets : List (List Bool)) → AreAtoms S.fits S.has_header store.now tests (atoms_in self.now) sets → (d : Header) → IsAlike tests (slice_index_or (leasts_of (atoms_in self.now)) result d) h.now }
     {
         for (n, atom) in self.atoms.iter().enumerate() {
             if store.has(&atom.region, h) {

@@ -1,8 +1,8 @@
 //! Atoms of cuts, over both stores.
 
-ghost use Rattle.std.specs.Prelude.{◌≡◌, ◌<◌, ◌≤◌, [], length, slice_index_or};
+ghost use Rattle.std.specs.Prelude.{◌≡◌, ℕ, ◌<◌, ◌≤◌, [], length, slice_index_or};
 ghost use Rattle.np_region.specs.Keeping.{EachFits};
-ghost use Rattle.np_atomizer.specs.Atoms.{atoms_in, answers_of};
+ghost use Rattle.np_atomizer.specs.Atoms.{atoms_in, sets_in};
 
 use np_atomizer::{Atoms, atomize};
 use np_bdd::Diagrams;
@@ -13,14 +13,9 @@ use std::process::Abort;
 use std::test::Fail;
 
 // An atom as a line: the fields of its least member, and what each cut answers.
-fn line<R: Drop>(
-    alloc: Global,
-    atoms: &Atoms<R>,
-    n: usize,
-    cuts: usize,
-) -> Result<String, AllocError>
+fn line<R: Drop>(alloc: Global, atoms: &Atoms<R>, n: usize) -> Result<String, AllocError>
     requires atom { n < length (atoms_in atoms.now) }
-    requires cuts { length (slice_index_or (answers_of (atoms_in atoms.now)) n []) ≡ cuts }
+    requires sets { (k : ℕ) → k < length (sets_in atoms.now) → length (slice_index_or (sets_in atoms.now) k []) ≡ length (atoms_in atoms.now) }
 {
     let h = atoms.least(n);
     let est = u8::from(h.est);
@@ -28,7 +23,7 @@ fn line<R: Drop>(
         "{} {} {} {} {} {est} {} ",
         h.src, h.dst, h.proto, h.a, h.b, h.dscp
     )?;
-    for cut in 0..cuts {
+    for cut in 0..atoms.cuts() {
         text.push_str(if atoms.answer(n, cut) { "1" } else { "0" })?;
     }
     Ok(text)
@@ -43,7 +38,7 @@ fn table<S: Regions>(alloc: Global, store: &mut S, cuts: &[S::R]) -> Result<Stri
     let leasts = atoms.leasts(alloc)?;
     let mut text = String::new(alloc);
     for n in 0..atoms.len() {
-        text.push_str(line(alloc, &atoms, n, cuts.len())?.as_str())?;
+        text.push_str(line(alloc, &atoms, n)?.as_str())?;
         let least = atoms.least(n);
         let found = is_valid(&least) && atoms.atom_of(store, &least) == n;
         let own = store.least(atoms.region(n)) == Some(least);

@@ -6,4 +6,4 @@ abbrev pub invariant-loop-region : goal.invariant-loop-region
 invariant-loop-region g l =
     (goal.iterator-loop-region g).can_next l.region-iterator
     × (goal.iterator-loop-region g).is_finite l.region-iterator
-    × AreReadTo g.S.Regions.fits g.S.Regions.has_header l.store l.cuts l.fn.regions.items (into_iter_items l.region-iterator) l.atoms.items
+    × AreReadTo g.S.Regions.fits g.S.Regions.has_header l.store l.fn.regions.items (into_iter_items l.region-iterator) l.atoms.items

@@ -1,0 +1,8 @@
+//! Which atoms reach which areas of a network, and by which paths, where each slot lets some atoms cross.
+#![tactic(auto)]
+
+mod posture;
+mod spreading;
+
+pub use posture::Posture;
+pub use spreading::{Reached, flow};

@@ -1,2 +1,3 @@
 pub mod Verdicts
 pub mod Cases
+pub mod Judging

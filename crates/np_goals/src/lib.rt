@@ -2,6 +2,7 @@
 #![tactic(auto)]
 
 mod cases;
+mod flows;
 mod judging;
 mod verdicts;
 

@@ -128,6 +128,23 @@ word_bit-made f op works words others new len fit same made k =
           of_new ∙ sym works.none ∙ ap (λ b. f b false) (sym of_words) ∙ ap (f (word_bit words k)) (sym of_others)
     ]
 
+-- the bits of words that each have a word more of what two others have in common
+pub word_bit-join_met : (words xs ys new : List ℕ) → length words ≡ length xs → length words ≡ length ys → length new ≡ length words
+    → ((k : ℕ) → k < length words → get_or new k 0 ≡ bit_or (get_or words k 0) (bit_and (get_or xs k 0) (get_or ys k 0)))
+    → (k : ℕ) → word_bit new k ≡ (word_bit words k || (word_bit xs k && word_bit ys k))
+word_bit-join_met words xs ys new len_xs len_ys same made k =
+    elim (cases_lt (k / 64) (length words)) [
+      | inl within ↦
+          ap (λ x. eqb (bit_at x (k % 64)) 1) (made (k / 64) within)
+          ∙ word_or (get_or words (k / 64) 0) (bit_and (get_or xs (k / 64) 0) (get_or ys (k / 64) 0)) (k % 64)
+          ∙ ap (λ x. word_bit words k || x) (word_and (get_or xs (k / 64) 0) (get_or ys (k / 64) 0) (k % 64))
+      | inr past ↦
+          let of_words : word_bit words k ≡ false = zero_bit words k (get_or_past words (k / 64) 0 past) in
+          let of_xs : word_bit xs k ≡ false = zero_bit xs k (get_or_past xs (k / 64) 0 (omega arith)) in
+          let of_new : word_bit new k ≡ false = zero_bit new k (get_or_past new (k / 64) 0 (omega arith)) in
+          of_new ∙ sym (ap (λ b. b || (word_bit xs k && word_bit ys k)) of_words ∙ ap (λ b. b && word_bit ys k) of_xs)
+    ]
+
 -- ---- words are determined by their bits
 
 word_bit_of : (words : List ℕ) (w i : ℕ) → i < 64 → word_bit words (w * 64 + i) ≡ eqb (bit_at (get_or words w 0) i) 1

@@ -1,18 +1,18 @@
 -- The words that hold a set.
-use Rattle.std.proofs.Common.{◌≡◌, ◌≢◌, ℕ, ◌-◌, ◌*◌, ◌/◌, ◌%◌, ◌^◌, ◌<◌, ◌≤◌, Bool, true, false, eqb, List, length, replicate, get_or, set, refl, sym, ◌∙◌, ap, subst, inl, inr, arith, ext_get_or, length-set, get_or-set_same, get_or-set_other}
+use Rattle.std.proofs.Common.{◌≡◌, ◌≢◌, ℕ, ◌-◌, ◌*◌, ◌/◌, ◌%◌, ◌^◌, ◌<◌, ◌≤◌, ◌&&◌, ◌||◌, Bool, true, false, eqb, List, length, replicate, get_or, set, refl, sym, ◌∙◌, ap, subst, inl, inr, arith, ext_get_or, length-set, get_or-set_same, get_or-set_other}
 use Rattle.std.proofs.lemmas.List.{length-replicate, get_or-replicate, get_or_past}
 use Rattle.std.proofs.lemmas.List.FromFn.{length-map-range_with_len, get_or-map-range_with_len}
 use Rattle.std.proofs.lemmas.Bool.{cases_eq, cases_lt}
 use Rattle.std.proofs.lemmas.Nat.Bits.{bit_at_ones, bit_at_ones_above}
 use Rattle.std.proofs.lemmas.Nat.{one_shl}
 use Rattle.std.specs.Int.{bit_at, div_ceil}
-use Rattle.np_atomset.specs.AtomSet.{AreWords, has_member, combine, word_bit, AreWordsOf, members, FitsLength}
+use Rattle.np_atomset.specs.AtomSet.{AreWords, has_member, combine, joined, met, word_bit, AreWordsOf, members, FitsLength}
 use Rattle.std.proofs.lemmas.Bool.{false_from_ne_true}
 use Rattle.std.proofs.lemmas.Bool.Decides.{same_from_decides}
 use Rattle.std.specs.Bool.{Decides, beq}
 use Rattle.std.specs.Prelude.{IsTrue, ◌↔◌}
 use Rattle.std.specs.Cmp.Lexicographic.{pointwise}
-use Rattle.np_atomset.proofs.Sets.{equal_sets, same_members, has_member-past, length-combine, has_member-combine}
+use Rattle.np_atomset.proofs.Sets.{equal_sets, same_members, has_member-past, length-combine, has_member-combine, has_member-joined, has_member-met}
 use Rattle.np_atomset.proofs.Bits.{zero_bit, words_from_bits}
 
 -- ---- the words of a set
@@ -98,6 +98,25 @@ AreWordsOf-combine f none s t words others new are_s are_t len same made = recor
       made k ∙ ap (λ b. f b (word_bit others k)) (are_s.bits k) ∙ ap (f (has_member s k)) (are_t.bits k)
       ∙ sym (has_member-combine f none s t len k);
 }
+
+-- a set with what two others have in common
+pub AreWordsOf-join_met : (s t u : List Bool) (words xs ys new : List ℕ)
+    → AreWordsOf s words → AreWordsOf t xs → AreWordsOf u ys → length s ≡ length t → length s ≡ length u → length new ≡ length words
+    → ((k : ℕ) → word_bit new k ≡ (word_bit words k || (word_bit xs k && word_bit ys k)))
+    → AreWordsOf (joined s (met t u)) new
+AreWordsOf-join_met s t u words xs ys new are_s are_t are_u len_t len_u same made =
+    let common : length (met t u) ≡ length t = length-combine (λ x y. x && y) t u (omega arith) in
+    let fits : length s ≡ length (met t u) = omega arith in
+    record {
+      count = same ∙ are_s.count ∙ ap (λ m. div_ceil m 64) (sym (length-combine (λ x y. x || y) s (met t u) fits));
+      bits = λ k.
+          made k
+          ∙ ap (λ b. b || (word_bit xs k && word_bit ys k)) (are_s.bits k)
+          ∙ ap (λ b. has_member s k || (b && word_bit ys k)) (are_t.bits k)
+          ∙ ap (λ b. has_member s k || (has_member t k && b)) (are_u.bits k)
+          ∙ ap (λ b. has_member s k || b) (sym (has_member-met t u (omega arith) k))
+          ∙ sym (has_member-joined s (met t u) fits k);
+    }
 
 -- ---- every member
 

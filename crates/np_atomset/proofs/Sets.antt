@@ -76,6 +76,11 @@ pub has_member-met : (xs ys : List Bool) → length xs ≡ length ys
     → (k : ℕ) → has_member (met xs ys) k ≡ (has_member xs k && has_member ys k)
 has_member-met xs ys h k = has_member-combine (λ x y. x && y) refl xs ys h k
 
+pub length-join_met : (s t u : List Bool) → length s ≡ length t → length s ≡ length u → length (joined s (met t u)) ≡ length s
+length-join_met s t u len_t len_u =
+    let common : length (met t u) ≡ length t = length-combine (λ x y. x && y) t u (omega arith) in
+    length-combine (λ x y. x || y) s (met t u) (omega arith)
+
 pub has_member-without : (xs ys : List Bool) → length xs ≡ length ys
     → (k : ℕ) → has_member (without xs ys) k ≡ (has_member xs k && not (has_member ys k))
 has_member-without xs ys h k = has_member-combine (λ x y. x && not y) refl xs ys h k

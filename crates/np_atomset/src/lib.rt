@@ -99,6 +99,21 @@ impl AtomSet {
         words::join(self.words.as_mut_slice(), other.words.as_slice())
     }
 
+    /// Adds the members that `x` and `y` have in common, and answers whether there is one that the set did not have.
+    pub fn join_met(&mut self, x: &AtomSet, y: &AtomSet) -> bool
+        requires x { length self.old ≡ length x.now }
+        requires y { length self.old ≡ length y.now }
+        ensures all { self.new ≡ joined self.old (met x.now y.now) }
+        ensures grew { IsTrue result ↔ (self.new ≢ self.old) }
+        ensures same { OnFalse result (self.new ≡ self.old) }
+    {
+        words::join_met(
+            self.words.as_mut_slice(),
+            x.words.as_slice(),
+            y.words.as_slice(),
+        )
+    }
+
     /// Keeps the members that `other` has too.
     pub fn meet_with(&mut self, other: &AtomSet)
         requires { length self.old ≡ length other.now }

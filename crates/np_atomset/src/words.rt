@@ -67,6 +67,24 @@ pub(crate) fn join(words: &mut [u64], others: &[u64]) -> bool
     changed
 }
 
+/// Sets each bit that `xs` and `ys` both have, and answers whether a word changed.
+pub(crate) fn join_met(words: &mut [u64], xs: &[u64], ys: &[u64]) -> bool
+    requires xs { length words.old ≡ length xs.now }
+    requires ys { length words.old ≡ length ys.now }
+    ensures bits { (k : ℕ) → word_bit words.new k ≡ (word_bit words.old k || (word_bit xs.now k && word_bit ys.now k)) }
+    ensures changed { IsTrue result ↔ (words.new ≢ words.old) }
+    ensures same { OnFalse result (words.new ≡ words.old) }
+    ensures fit { AreWords words.old × AreWords words.new }
+{
+    let mut changed = false;
+    for (i, word) in words.iter_mut().enumerate() {
+        let more = *word | (xs[i] & ys[i]);
+        changed |= more != *word;
+        *word = more;
+    }
+    changed
+}
+
 /// Keeps each bit that `others` has too.
 pub(crate) fn meet(words: &mut [u64], others: &[u64])
     requires { length words.old ≡ length others.now }

@@ -1,0 +1,2 @@
+pub mod Postures
+pub mod Carrying

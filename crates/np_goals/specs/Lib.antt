@@ -1,0 +1,3 @@
+pub mod Verdicts
+pub mod Cases
+pub mod Judging

@@ -2,6 +2,7 @@
 #![tactic(auto)]
 
 mod posture;
+mod rounds;
 mod spreading;
 
 pub use posture::Posture;

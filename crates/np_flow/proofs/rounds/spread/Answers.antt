@@ -1,5 +1,5 @@
 use Rattle.std.proofs.Common.{◌≡◌, ◌*◌, ◌<◌, ◌≤◌, length, arith, ap, ◌∙◌}
-use Rattle.np_flow.specs.Postures.{atom_count, AllHaveLength}
+use Rattle.np_flow.specs.Postures.{atom_count}
 use Rattle.np_flow.specs.Spread.{total}
 use Rattle.np_flow.proofs.JoinLaws.{total-bound}
 use Rattle.np_flow.proofs.SpreadLaws.{entered_first, entered_next, reached_none, reached_next, reached_all}

@@ -1,2 +1,3 @@
 pub mod Postures
 pub mod Carrying
+pub mod Spread

@@ -3,6 +3,7 @@
 
 mod path_search;
 mod posture;
+mod rounds;
 mod spreading;
 
 pub use path_search::first_path;

@@ -1,11 +1,12 @@
 //! The atoms that reach each area, by paths of any length.
 
-ghost use Rattle.std.specs.Prelude.{◌≡◌, ◌↔◌, ◌<◌, ℕ, [], length, slice_index_or, true, IfOk};
+ghost use Rattle.std.specs.Prelude.{◌≡◌, ◌↔◌, ◌<◌, ℕ, [], length, replicate, slice_index_or, true, false, IfOk};
 ghost use Rattle.np_atomset.specs.AtomSet.{has_member};
 ghost use Rattle.np_flow.specs.Postures.{lets_atom, atom_count, AllHaveLength, FitsInterfaces};
 ghost use Rattle.np_flow.specs.Carrying.{Reaches};
 
 use crate::posture::Posture;
+use crate::rounds::spread;
 use np_atomset::AtomSet;
 use np_net::{AreaId, Network};
 use sqlite_items::Items;
@@ -27,6 +28,27 @@ impl Reached {
     }
 }
 
+/// How many atoms the sets of slots have.
+fn count_atoms(slots: &[AtomSet]) -> usize
+    ensures { result ≡ atom_count slots.now }
+{
+    match slots.first() {
+        Some(set) => set.len(),
+        None => 0,
+    }
+}
+
+/// So many sets of so many atoms, without a member.
+fn empty_sets(alloc: Global, n: usize, atoms: usize) -> Result<Vec<AtomSet>, AllocError>
+    ensures { IfOk result (λ sets. sets.items ≡ replicate n (replicate atoms false)) }
+{
+    let mut sets = Vec::new(alloc);
+    while sets.len() < n {
+        sets.push(AtomSet::new(alloc, atoms)?)?;
+    }
+    Ok(sets)
+}
+
 /// The atoms that reach each area from one of them: those that some path of at least one hop carries,
 /// each hop through an inward and an outward slot of one device (Guttman and Herzog 2005). Each set
 /// has as many atoms as those of the posture; where the network has no interface, none. Fails only
@@ -45,5 +67,18 @@ pub fn flow(
     ensures lengths { IfOk result (λ r. AllHaveLength (atom_count posture.now.slots) r.sets) }
     ensures exact { IfOk result (λ r. (area atom : ℕ) → area < length net.now.areas → (has_member (slice_index_or r.sets area []) atom ≡ true) ↔ Reaches net.now.interfaces (lets_atom posture.now.slots atom) from area) }
 {
-    Err(AllocError)
+    let slots = posture.slots.as_slice();
+    let atoms = count_atoms(slots);
+    let mut devices = empty_sets(alloc, net.devices.len(), atoms)?;
+    let mut areas = empty_sets(alloc, net.areas.len(), atoms)?;
+    spread(
+        net.interfaces.as_slice(),
+        slots,
+        from,
+        devices.as_mut_slice(),
+        areas.as_mut_slice(),
+    );
+    Ok(Reached {
+        sets: Items::from_vec(areas),
+    })
 }

@@ -6,6 +6,6 @@ mod flows;
 mod judging;
 mod verdicts;
 
-pub use cases::Case;
+pub use cases::{Case, case_of};
 pub use judging::judge;
 pub use verdicts::Verdict;

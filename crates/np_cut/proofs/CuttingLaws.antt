@@ -1,6 +1,6 @@
 -- The steps by which the region of a list is cut out of the valid headers.
 use Rattle.std.proofs.Common.{◌≡◌, ℕ, Bool, true, false, List, [], ◌∷◌, ◌++◌, nat_le, refl, sym, ◌∙◌, ap, arith, append_assoc}
-use Rattle.std.specs.Prelude.{◌&&◌, ◌||◌, if◌then◌else◌, Some}
+use Rattle.std.specs.Prelude.{◌&&◌, ◌||◌, not, if◌then◌else◌, Some, None}
 use Rattle.std.specs.List.{find}
 use Rattle.std.specs.Option.{option_map_or}
 use Rattle.std.proofs.lemmas.Bool.{true≢false, and_right, le-leb}
@@ -16,10 +16,10 @@ use Rattle.np_space.specs.declared.blocks.Block.{Block}
 use Rattle.np_space.proofs.FlagLemmas.{or_false, and_true, flag_small}
 use Rattle.np_space.proofs.HeaderLemmas.{valid_widths}
 use Rattle.np_acl.specs.declared.entries.Entry.{Entry}
-use Rattle.np_acl.specs.Entries.{ports_have, entry_matches, first_says}
+use Rattle.np_acl.specs.Entries.{ports_have, entry_matches, any_matches, first_says}
 use Rattle.np_region.specs.Keeping.{KeepsRegions}
 use Rattle.np_region.proofs.KeepingLemmas.{keeps_chained}
-use Rattle.np_cut.specs.Cutting.{matches_with, IsRegionOf, HasDecided}
+use Rattle.np_cut.specs.Cutting.{matches_with, IsRegionOf, IsPartOf}
 
 -- ---- an entry as blocks
 
@@ -150,44 +150,108 @@ or_more false true m n = refl
 pub or_nothing : (r v m : Bool) → (v && false) ≡ (v && m) → r ≡ (r || (v && m))
 or_nothing r v m none = sym (or_false r) ∙ ap (λ t. r || t) (sym (and_right v false refl) ∙ none)
 
+-- ---- entries in a row
+
+-- what an entry says before others, by whether it matches
+abbrev said_before : Entry → Bool → List Entry → Header → Bool
+said_before e m entries h = option_map_or (λ (x : Entry). x.permit) (if m then Some e else find (λ x. entry_matches x h) entries) false
+
+says_nothing : (e : Entry) (entries : List Entry) (h : Header) → (any_matches entries h ≡ false → first_says entries h ≡ false) → (m : Bool) → (m || any_matches entries h) ≡ false → said_before e m entries h ≡ false
+says_nothing e entries h rest true none = absurd (true≢false none)
+says_nothing e entries h rest false none = rest none
+
+-- entries of which none matches say no
+says_matches : (entries : List Entry) (h : Header) → any_matches entries h ≡ false → first_says entries h ≡ false
+says_matches [] h none = refl
+says_matches (e ∷ entries) h none = says_nothing e entries h (says_matches entries h) (entry_matches e h) none
+
+says_first : (e : Entry) (xs ys : List Entry) (h : Header) → first_says (xs ++ ys) h ≡ (if any_matches xs h then first_says xs h else first_says ys h) → (m : Bool) → said_before e m (xs ++ ys) h ≡ (if m || any_matches xs h then said_before e m xs h else first_says ys h)
+says_first e xs ys h rest true = refl
+says_first e xs ys h rest false = rest
+
+-- what the first entries match they decide before the others
+says_together : (xs ys : List Entry) (h : Header) → first_says (xs ++ ys) h ≡ (if any_matches xs h then first_says xs h else first_says ys h)
+says_together [] ys h = refl
+says_together (e ∷ xs) ys h = says_first e xs ys h (says_together xs ys h) (entry_matches e h)
+
 module _ {S R : Type 0} (fits : S → R → Type 0) (has : S → R → Header → Bool) where
-  -- after the last entry nothing is permitted
-  pub decided_none : (entries left : List Entry) (old s : S) (x : R) → left ≡ entries → KeepsRegions fits has old s → fits s x → ((h : Header) → has s x h ≡ false) → HasDecided fits has entries left old s x
-  decided_none entries left old s x all k f none =
+  -- of no entries
+  pub part_of_none : (s : S) (matched permitted : R) → fits s matched → fits s permitted → ((h : Header) → has s matched h ≡ false) → ((h : Header) → has s permitted h ≡ false) → IsPartOf fits has s [] matched permitted
+  part_of_none s matched permitted fm fp nm np =
       record {
-        after = [];
-        whole = sym (all_left entries) ∙ ap (λ l. l ++ []) (sym all);
-        region = record { kept = k; fit = f; exact = λ h. none h ∙ sym (and_right (is_valid_header h) false refl) };
+        matched_fits = fm;
+        permitted_fits = fp;
+        matches = λ h. nm h ∙ sym (and_right (is_valid_header h) false refl);
+        permits = λ h. np h ∙ sym (and_right (is_valid_header h) false refl);
+      }
+
+  -- of one entry, by whether it permits
+  pub part_of_entry : (e : Entry) (s : S) (matched permitted : R) → fits s matched → fits s permitted → ((h : Header) → has s matched h ≡ (is_valid_header h && entry_matches e h)) → ((h : Header) → has s permitted h ≡ (e.permit && has s matched h)) → IsPartOf fits has s (e ∷ []) matched permitted
+  part_of_entry e s matched permitted fm fp m p =
+      record {
+        matched_fits = fm;
+        permitted_fits = fp;
+        matches = λ h. m h ∙ ap (λ b. is_valid_header h && b) (sym (or_false (entry_matches e h)));
+        permits = λ h. p h ∙ ap (λ b. e.permit && b) (m h) ∙ said e h (is_valid_header h) (entry_matches e h);
       }
     where
-      all_left : (l : List Entry) → l ++ [] ≡ l
-      all_left [] = refl
-      all_left (e ∷ l) = ap (λ t. e ∷ t) (all_left l)
+      either : (permit v : Bool) → (permit && (v && true)) ≡ (v && permit)
+      either false false = refl
+      either false true = refl
+      either true false = refl
+      either true true = refl
 
-  -- one entry more, which decides before those after it
-  pub decided_more : (entries left before : List Entry) (e : Entry) (old s t u : S) (x matched next : R) → HasDecided fits has entries left old s x → left ≡ before ++ e ∷ [] → KeepsRegions fits has s t → fits t matched → ((h : Header) → has t matched h ≡ (is_valid_header h && entry_matches e h)) → KeepsRegions fits has t u → fits u next → ((h : Header) → has u next h ≡ (if has t matched h then e.permit else has t x h)) → HasDecided fits has entries before old u next
-  decided_more entries left before e old s t u x matched next so_far last k fm m l fn n =
+      neither : (permit v : Bool) → (permit && (v && false)) ≡ (v && false)
+      neither false false = refl
+      neither false true = refl
+      neither true false = refl
+      neither true true = refl
+
+      said : (e : Entry) (h : Header) (v m : Bool) → (e.permit && (v && m)) ≡ (v && said_before e m [] h)
+      said e h v true = either e.permit v
+      said e h v false = neither e.permit v
+
+  -- after a call that keeps the regions
+  pub part_kept : (entries : List Entry) (s t : S) (matched permitted : R) → KeepsRegions fits has s t → IsPartOf fits has s entries matched permitted → IsPartOf fits has t entries matched permitted
+  part_kept entries s t matched permitted k p =
       record {
-        after = e ∷ so_far.after;
-        whole = so_far.whole ∙ ap (λ b. b ++ so_far.after) last ∙ append_assoc before (e ∷ []) so_far.after;
-        region = record {
-          kept = keeps_chained fits has old s u so_far.region.kept (keeps_chained fits has s t u k l);
-          fit = fn;
-          exact = λ h.
-              n h
-              ∙ (λ i. if m h i then e.permit else ((k.same x so_far.region.fit h ∙ so_far.region.exact h) i))
-              ∙ decides (is_valid_header h) (entry_matches e h) so_far.after h
-              ∙ ap (λ b. is_valid_header h && b) (says (entry_matches e h) so_far.after h);
-        };
+        matched_fits = k.fit matched p.matched_fits;
+        permitted_fits = k.fit permitted p.permitted_fits;
+        matches = λ h. k.same matched p.matched_fits h ∙ p.matches h;
+        permits = λ h. k.same permitted p.permitted_fits h ∙ p.permits h;
+      }
+
+  -- what the first of entries match they decide alone
+  pub parts_together : (xs ys : List Entry) (s t u : S) (first_matched first_permitted second_matched second_permitted matched permitted : R) → KeepsRegions fits has s t → KeepsRegions fits has t u → IsPartOf fits has s xs first_matched first_permitted → IsPartOf fits has s ys second_matched second_permitted
+      → fits u matched → fits t permitted → ((h : Header) → has u matched h ≡ (has t first_matched h || has t second_matched h)) → ((h : Header) → has t permitted h ≡ (has s first_permitted h || (has s second_permitted h && not (has s first_matched h)))) → IsPartOf fits has u (xs ++ ys) matched permitted
+  parts_together xs ys s t u first_matched first_permitted second_matched second_permitted matched permitted k l x y fm fp m p =
+      record {
+        matched_fits = fm;
+        permitted_fits = l.fit permitted fp;
+        matches = λ h.
+            m h
+            ∙ (λ i. (k.same first_matched x.matched_fits h ∙ x.matches h) i || (k.same second_matched y.matched_fits h ∙ y.matches h) i)
+            ∙ both (is_valid_header h) (any_matches xs h) (any_matches ys h)
+            ∙ ap (λ b. is_valid_header h && b) (sym (list_any-append (λ e. entry_matches e h) xs ys));
+        permits = λ h.
+            l.same permitted fp h
+            ∙ p h
+            ∙ (λ i. x.permits h i || (y.permits h i && not (x.matches h i)))
+            ∙ first_decide (is_valid_header h) (first_says xs h) (any_matches xs h) (first_says ys h) (says_matches xs h)
+            ∙ ap (λ b. is_valid_header h && b) (sym (says_together xs ys h));
       }
     where
-      says : (m : Bool) (after : List Entry) (h : Header) → (if m then e.permit else first_says after h) ≡ option_map_or (λ (x : Entry). x.permit) (if m then Some e else find (λ x. entry_matches x h) after) false
-      says false after h = refl
-      says true after h = refl
+      both : (v a b : Bool) → ((v && a) || (v && b)) ≡ (v && (a || b))
+      both false a b = refl
+      both true a b = refl
 
-      decides : (v m : Bool) (after : List Entry) (h : Header) → (if v && m then e.permit else (v && first_says after h)) ≡ (v && (if m then e.permit else first_says after h))
-      decides false m after h = refl
-      decides true m after h = refl
+      first_decide : (v a m b : Bool) → (m ≡ false → a ≡ false) → ((v && a) || ((v && b) && not (v && m))) ≡ (v && (if m then a else b))
+      first_decide false a m b none = refl
+      first_decide true true true b none = refl
+      first_decide true false true true none = refl
+      first_decide true false true false none = refl
+      first_decide true a false true none = ap (λ c. c || true) (none refl)
+      first_decide true a false false none = ap (λ c. c || false) (none refl)
 
   -- a region with the headers that an entry matches by one more span of destination ports
   pub ports_step : (old s t : S) (region all next : R) (e : Entry) (a b bs : List Span) (x : Span) → IsRegionOf fits has (λ h. has old region h || (is_valid_header h && matches_with e a b h)) old s all → KeepsRegions fits has s t → fits t next → ((h : Header) → has t next h ≡ (has s all h || (is_valid_header h && matches_with e a (x ∷ []) h))) → bs ≡ b ++ x ∷ [] → IsRegionOf fits has (λ h. has old region h || (is_valid_header h && matches_with e a bs h)) old t next

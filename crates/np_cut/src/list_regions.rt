@@ -7,8 +7,10 @@ ghost use Rattle.np_space.specs.Block.{block_has};
 ghost use Rattle.np_space.specs.Span.{span_has};
 ghost use Rattle.np_space.specs.declared.headers.Header.{Header};
 ghost use Rattle.np_region.specs.Keeping.{KeepsRegions};
-ghost use Rattle.np_acl.specs.Entries.{entry_matches, first_says, list_permits};
-ghost use Rattle.np_cut.specs.Cutting.{matches_with};
+ghost use Rattle.std.specs.Prelude.{List as ListOf, ◌++◌};
+ghost use Rattle.np_acl.specs.declared.entries.Entry.{Entry as Entries};
+ghost use Rattle.np_acl.specs.Entries.{entry_matches, list_permits};
+ghost use Rattle.np_cut.specs.Cutting.{matches_with, IsPartOf};
 
 use np_acl::{Entry, List, PortSpan};
 use np_region::Regions;
@@ -105,47 +107,89 @@ pub fn entry_region<S: Regions>(store: &mut S, entry: &Entry) -> Result<S::R, Al
     Ok(all)
 }
 
-// The headers that are permitted once an entry stands before others: those that it matches as it says, and
-// the rest as the others say.
-fn with_entry_before<S: Regions>(
-    store: &mut S,
-    others: &S::R,
-    matched: &S::R,
-    permit: bool,
-) -> Result<S::R, AllocError>
-    requires others { S.fits store.old others.now }
-    requires matched { S.fits store.old matched.now }
-    ensures kept { KeepsRegions S.fits S.has_header store.old store.new }
-    ensures fits { IfOk result (λ x. S.fits store.new x) }
-    ensures exact { IfOk result (λ x. (h : Header) → S.has_header store.new x h ≡ (if S.has_header store.old matched.now h then permit else S.has_header store.old others.now h)) }
-{
-    if permit {
-        store.join(matched, others)
-    } else {
-        store.minus(others, matched)
-    }
+/// What entries in a row match of the valid headers, and what of it they permit.
+#[derive(Drop)]
+struct Part<R> {
+    matched: R,
+    permitted: R,
 }
 
-// What entries permit of the valid headers. The last entry comes first: what stands before an entry decides
-// over it, so each entry costs one join or one difference, of what it matches and what the later ones permit.
-fn entries_region<S: Regions>(store: &mut S, entries: &[Entry]) -> Result<S::R, AllocError>
+// What one entry matches and permits.
+#[tactic(auto, using(crate::proofs::CuttingLaws::part_of_entry))]
+fn part_of_one<S: Regions>(store: &mut S, entry: &Entry) -> Result<Part<S::R>, AllocError>
+    ensures kept { KeepsRegions S.fits S.has_header store.old store.new }
+    ensures part { IfOk result (λ x. IsPartOf S.fits S.has_header store.new (entry.now ∷ []) x.matched x.permitted) }
+{
+    let matched = entry_region(store, entry)?;
+    let permitted = if entry.permit {
+        store.copy(&matched)?
+    } else {
+        store.none()
+    };
+    Ok(Part { matched, permitted })
+}
+
+// What is permitted where some entries stand before others: what the first ones match they decide alone.
+fn permitted_before<S: Regions>(
+    store: &mut S,
+    first: &Part<S::R>,
+    second: &S::R,
+) -> Result<S::R, AllocError>
+    requires matched { S.fits store.old first.now.matched }
+    requires permitted { S.fits store.old first.now.permitted }
+    requires second { S.fits store.old second.now }
     ensures kept { KeepsRegions S.fits S.has_header store.old store.new }
     ensures fits { IfOk result (λ x. S.fits store.new x) }
-    ensures exact { IfOk result (λ x. (h : Header) → S.has_header store.new x h ≡ (is_valid_header h && first_says entries.now h)) }
+    ensures exact { IfOk result (λ x. (h : Header) → S.has_header store.new x h ≡ (S.has_header store.old first.now.permitted h || (S.has_header store.old second.now h && not (S.has_header store.old first.now.matched h)))) }
 {
-    let mut permitted = store.none();
-    let mut left = entries;
-    while let [before @ .., entry] = left {
-        let matched = entry_region(store, entry)?;
-        permitted = with_entry_before(store, &permitted, &matched, entry.permit)?;
-        left = before;
+    let rest = store.minus(second, &first.matched)?;
+    store.join(&first.permitted, &rest)
+}
+
+// What entries match and permit, the first of them before the others.
+#[tactic(auto, using(crate::proofs::CuttingLaws::parts_together))]
+fn put_before<S: Regions>(
+    store: &mut S,
+    first: &Part<S::R>,
+    second: &Part<S::R>,
+) -> Result<Part<S::R>, AllocError>
+    requires first_matched { S.fits store.old first.now.matched }
+    requires first_permitted { S.fits store.old first.now.permitted }
+    requires second_matched { S.fits store.old second.now.matched }
+    requires second_permitted { S.fits store.old second.now.permitted }
+    ensures kept { KeepsRegions S.fits S.has_header store.old store.new }
+    ensures part { IfOk result (λ x. (xs ys : ListOf Entries) → IsPartOf S.fits S.has_header store.old xs first.now.matched first.now.permitted → IsPartOf S.fits S.has_header store.old ys second.now.matched second.now.permitted → IsPartOf S.fits S.has_header store.new (xs ++ ys) x.matched x.permitted) }
+{
+    let permitted = permitted_before(store, first, &second.permitted)?;
+    let matched = store.join(&first.matched, &second.matched)?;
+    Ok(Part { matched, permitted })
+}
+
+// What entries match and permit, by halves: so each region is joined with one of its own size, and not a
+// small one again and again with all that there is.
+#[tactic(auto, using(crate::proofs::CuttingLaws::part_of_none))]
+fn part_of<S: Regions>(store: &mut S, entries: &[Entry]) -> Result<Part<S::R>, AllocError>
+    ensures kept { KeepsRegions S.fits S.has_header store.old store.new }
+    ensures part { IfOk result (λ x. IsPartOf S.fits S.has_header store.new entries.now x.matched x.permitted) }
+{
+    if let [entry] = entries {
+        return part_of_one(store, entry);
     }
-    Ok(permitted)
+    if entries.is_empty() {
+        return Ok(Part {
+            matched: store.none(),
+            permitted: store.none(),
+        });
+    }
+    let (before, after) = entries.split_at(entries.len() / 2);
+    let first = part_of(store, before)?;
+    let second = part_of(store, after)?;
+    Ok(put_before(store, &first, &second)?)
 }
 
 /// Exactly the valid headers that the list permits, by its first entry that matches (Cisco IOS Security
-/// Command Reference, `access-list`; Guttman and Herzog 2005). Fails only for want of memory. Each entry of the
-/// list is looked at once, and costs one join or one difference of regions beside its own region.
+/// Command Reference, `access-list`; Guttman and Herzog 2005). Fails only for want of memory. The entries are taken
+/// by halves, with three joins and differences of regions for each entry beside its own region.
 pub fn list_region<S: Regions>(
     _alloc: Global,
     store: &mut S,
@@ -159,6 +203,6 @@ pub fn list_region<S: Regions>(
     if entries.is_empty() {
         store.whole()
     } else {
-        entries_region(store, entries)
+        Ok(part_of(store, entries)?.permitted)
     }
 }

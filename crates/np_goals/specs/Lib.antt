@@ -1,3 +1,4 @@
 pub mod Verdicts
 pub mod Cases
 pub mod Judging
+pub mod Making

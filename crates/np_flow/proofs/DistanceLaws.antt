@@ -68,14 +68,6 @@ module _ (interfaces : List Interface) (lets : ℕ → Bool) (devices : List Boo
 
 -- ---- one interface after another
 
-pub nearer_none : (interfaces : List Interface) (lets : ℕ → Bool) (devices : List Bool) (far : ℕ) (distances : List (Option ℕ))
-    → AreNearer interfaces lets devices far 0 distances distances
-nearer_none interfaces lets devices far distances = record {
-  kept = λ a m known. known;
-  all = λ n lt inward. absurd (omega arith);
-  only = λ a m known. inl known;
-}
-
 pub nearer_more : (interfaces : List Interface) (lets : ℕ → Bool) (devices : List Bool) (far n : ℕ) (old mid new : List (Option ℕ))
     → AreNearer interfaces lets devices far n old mid → IsNearer interfaces lets devices far n mid new
     → AreNearer interfaces lets devices far (n + 1) old new

@@ -159,9 +159,6 @@ pub record AreSoFar (interfaces : List Interface) (lets : ℕ → Bool) (from to
   pub on : Reaches interfaces lets from to → Reaches interfaces lets area to
   pub first : (rest : List (ℕ × ℕ)) → IsFirstPath interfaces lets area rest to → IsFirstPath interfaces lets from (hops ++ rest) to
 
-pub so_far_none : (interfaces : List Interface) (lets : ℕ → Bool) (from to : ℕ) → AreSoFar interfaces lets from to [] from
-so_far_none interfaces lets from to = record { on = λ r. r; first = λ rest path. path }
-
 module _ (interfaces : List Interface) (lets : ℕ → Bool) (from to : ℕ) (distances : List (Option ℕ)) (known : AreDistances interfaces lets to distances)
     (hops : List (ℕ × ℕ)) (area m i j : ℕ) (so_far : AreSoFar interfaces lets from to hops area) (next : IsNextHop interfaces lets distances area m i j) where
   pub so_far_more : (area_of interfaces j ≡ to → ⊥) → AreSoFar interfaces lets from to (hops ++ (i, j) ∷ []) (area_of interfaces j)

@@ -1,9 +1,7 @@
-//! Tests of the layer of access lists: entries, configurations and what is cut out of them.
+//! Tests of the layer of access lists: entries and configurations.
 #![tactic(auto)]
 
 #[cfg(test)]
 mod acl;
 #[cfg(test)]
 mod acl_read;
-#[cfg(test)]
-mod cut;

@@ -1,8 +1,11 @@
-//! Tests of the stores of regions, each of which passes the same ones, and of the atoms over them.
+//! Tests of the stores of regions, each of which passes the same ones, and of the
+//! atoms, the lists and the predicates over them.
 #![tactic(auto)]
 
 #[cfg(test)]
 mod atoms;
+#[cfg(test)]
+mod cut;
 #[cfg(test)]
 mod diagrams;
 #[cfg(test)]

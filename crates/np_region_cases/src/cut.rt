@@ -1,6 +1,7 @@
-//! The regions of entries, of lists and of predicates, over the store of block lists.
+//! The regions of entries, of lists and of predicates, over both stores.
 
 use np_acl::{Entry, List, Ports};
+use np_bdd::Diagrams;
 use np_cut::{entry_region, list_region, pred_region};
 use np_pred::{Areas, parse};
 use np_region::{BlockLists, Regions};
@@ -52,55 +53,46 @@ fn least_match<S: Regions>(store: &mut S, entry: &Entry) -> Result<Option<Header
     Ok(store.least(&region))
 }
 
-#[test]
-fn regions_with_the_flag(rt: HostRuntime) -> Result<(), Fail> {
-    let alloc = rt.alloc();
-    let mut store = BlockLists::new(alloc);
-
-    let all = asked(
-        alloc,
-        &mut store,
-        &List::new(alloc),
-        &header(17, 53, false, 0),
-    )?;
+fn regions_with_the_flag<R: Abort, S: Regions>(
+    rt: &R,
+    alloc: Global,
+    store: &mut S,
+) -> Result<(), Fail> {
+    let all = asked(alloc, store, &List::new(alloc), &header(17, 53, false, 0))?;
     assert_eq!(rt; all, (Some(Header::zeros()), true));
 
     let mut replies = tcp_entry(alloc, true, &[(0, 65535)])?;
     replies.est = Span::only(1);
-    assert_eq!(rt;
-        least_match(&mut store, &replies)?,
-        Some(header(6, 0, true, 0))
-    );
+    assert_eq!(rt; least_match(store, &replies)?, Some(header(6, 0, true, 0)));
     let replies = List::from_vec(vec![in alloc; replies]?);
-    let found = asked(alloc, &mut store, &replies, &header(6, 80, false, 0))?;
+    let found = asked(alloc, store, &replies, &header(6, 80, false, 0))?;
     assert_eq!(rt; found, (Some(header(6, 0, true, 0)), false));
     Ok(())
 }
 
-#[test]
-fn regions_by_code_point(rt: HostRuntime) -> Result<(), Fail> {
-    let alloc = rt.alloc();
-    let mut store = BlockLists::new(alloc);
+fn regions_by_code_point<R: Abort, S: Regions>(
+    rt: &R,
+    alloc: Global,
+    store: &mut S,
+) -> Result<(), Fail> {
     let mut voice = Entry::any(alloc, false)?;
     voice.dscp = Span::only(46);
-    assert_eq!(rt;
-        least_match(&mut store, &voice)?,
-        Some(header(0, 0, false, 46))
-    );
+    assert_eq!(rt; least_match(store, &voice)?, Some(header(0, 0, false, 46)));
     let mut list = List::new(alloc);
     list.push(voice)?;
     list.push(Entry::any(alloc, true)?)?;
     for (dscp, permitted) in [(45, true), (46, false), (47, true), (63, true), (64, false)] {
-        let (_, found) = asked(alloc, &mut store, &list, &header(0, 0, false, dscp))?;
+        let (_, found) = asked(alloc, store, &list, &header(0, 0, false, dscp))?;
         assert_eq!(rt; found, permitted, "{dscp}");
     }
     Ok(())
 }
 
-#[test]
-fn earlier_entries_are_cut_out(rt: HostRuntime) -> Result<(), Fail> {
-    let alloc = rt.alloc();
-    let mut store = BlockLists::new(alloc);
+fn earlier_entries_are_cut_out<R: Abort, S: Regions>(
+    rt: &R,
+    alloc: Global,
+    store: &mut S,
+) -> Result<(), Fail> {
     let mut web = List::new(alloc);
     web.push(tcp_entry(alloc, false, &[(0, 79), (81, 442)])?)?;
     web.push(tcp_entry(alloc, true, &[(0, 443)])?)?;
@@ -111,7 +103,7 @@ fn earlier_entries_are_cut_out(rt: HostRuntime) -> Result<(), Fail> {
         (header(6, 444, false, 0), false),
         (header(17, 80, false, 0), false),
     ] {
-        let (least, found) = asked(alloc, &mut store, &web, &h)?;
+        let (least, found) = asked(alloc, store, &web, &h)?;
         assert_eq!(rt; least, Some(header(6, 80, false, 0)));
         assert_eq!(rt; found, permitted, "{h:?}");
     }
@@ -162,10 +154,8 @@ fn compare<R: Abort, S: Regions>(
     Ok(())
 }
 
-#[test]
-fn predicates(rt: HostRuntime) -> Result<(), Fail> {
+fn predicates<R: Abort, S: Regions>(rt: &R, alloc: Global, store: &mut S) -> Result<(), Fail> {
     let (y, n) = (true, false);
-    let mut store = BlockLists::new(rt.alloc());
     for (text, holding) in [
         ("any", [y, y, y, y, y, y, y]),
         ("nothing", [n, n, n, n, n, n, n]),
@@ -184,7 +174,29 @@ fn predicates(rt: HostRuntime) -> Result<(), Fail> {
         ("and tcp dport 443", [n, n, n, n, n, n, y]),
         ("or udp established", [n, y, y, n, n, n, n]),
     ] {
-        compare(&rt, rt.alloc(), &mut store, text, &holding)?;
+        compare(rt, alloc, store, text, &holding)?;
     }
     Ok(())
+}
+
+fn lists_and_predicates<R: Abort, S: Regions>(
+    rt: &R,
+    alloc: Global,
+    store: &mut S,
+) -> Result<(), Fail> {
+    regions_with_the_flag(rt, alloc, store)?;
+    regions_by_code_point(rt, alloc, store)?;
+    earlier_entries_are_cut_out(rt, alloc, store)?;
+    predicates(rt, alloc, store)
+}
+
+#[test]
+fn lists_over_block_lists(rt: HostRuntime) -> Result<(), Fail> {
+    lists_and_predicates(&rt, rt.alloc(), &mut BlockLists::new(rt.alloc()))
+}
+
+#[test]
+fn lists_over_diagrams(rt: HostRuntime) -> Result<(), Fail> {
+    let mut store = Diagrams::new(rt.alloc())?;
+    lists_and_predicates(&rt, rt.alloc(), &mut store)
 }

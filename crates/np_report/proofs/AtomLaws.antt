@@ -7,9 +7,10 @@ use Rattle.np_net.specs.Plan.{Plan}
 use Rattle.np_net.specs.declared.filtering.Goal.{Goal}
 use Rattle.np_net_read.specs.CanonicalText.{spaced, line_text, lines_text}
 use Rattle.np_net_read.proofs.ParallelLaws.{drop-item}
+use Rattle.np_net_read.proofs.CanonicalLaws.{lines_text-append}
 use Rattle.np_report.specs.Words.{text_of, header_words}
 use Rattle.np_report.specs.Atoms.{goal_lines, list_lines, digits, atom_lines, atoms_text}
-use Rattle.np_report.proofs.TextLaws.{lines_appended, lines_text-append}
+use Rattle.np_report.proofs.TextLaws.{lines_appended}
 
 -- one word more, after a space
 pub word_appended : (o k l m : List ℕ) (words : List (List ℕ)) (word : List ℕ) → k ≡ o ++ spaced words → l ≡ k ++ 32 ∷ [] → m ≡ l ++ word → m ≡ o ++ spaced (words ++ word ∷ [])

@@ -1,4 +1,4 @@
-use Rattle.std.proofs.Common.{◌≡◌, ◌++◌, ℕ, List, Bool, map, take, if◌then◌else◌}
+use Rattle.std.proofs.Common.{◌≡◌, ◌++◌, map, take, if◌then◌else◌}
 use Rattle.np_atomizer.specs.Atoms.{sets_in}
 use Rattle.np_atomset.specs.AtomSet.{has_member}
 use Rattle.np_report.proofs.atoms.put_each.Given as goal

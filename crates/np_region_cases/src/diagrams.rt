@@ -63,9 +63,9 @@ fn first_bit(store: &Diagrams, x: Node) -> Option<u8>
     }
 }
 
-#[test]
-fn nodes_of_equal_regions(rt: HostRuntime) -> Result<(), Fail> {
-    let mut store = Diagrams::new(rt.alloc())?;
+// What the parts of the valid headers by bit 0 show, and whether what is put together of them is the
+// same node as what it was taken from.
+fn parts_by_bit_0(store: &mut Diagrams) -> Result<([View; 2], [bool; 4]), AllocError> {
     let none = store.none();
     let whole = store.whole()?;
     let high = store.of_block(&from_to(with_bits(1 << 31), Ternary::any()))?;
@@ -73,10 +73,31 @@ fn nodes_of_equal_regions(rt: HostRuntime) -> Result<(), Fail> {
     let again = store.minus(&whole, &low)?;
     let both = store.join(&low, &high)?;
     let neither = store.meet(&low, &high)?;
-    assert_eq!(rt; store.view(&none), View::No);
-    assert_eq!(rt; first_bit(&store, whole), Some(64));
+    let same = [
+        again == high && store.same(&again, &high),
+        store.same(&both, &whole),
+        store.same(&neither, &none),
+        store.same(&low, &high),
+    ];
+    Ok(([store.view(&low), store.view(&high)], same))
+}
+
+// What the nodes of no and of all valid headers show, the second by its first bit alone.
+fn ends(store: &mut Diagrams) -> Result<(View, Option<u8>, [Node; 2]), AllocError> {
+    let none = store.none();
+    let whole = store.whole()?;
+    Ok((store.view(&none), first_bit(store, whole), [none, whole]))
+}
+
+#[test]
+fn nodes_of_equal_regions(rt: HostRuntime) -> Result<(), Fail> {
+    let mut store = Diagrams::new(rt.alloc())?;
+    let (shown, bit, [none, whole]) = ends(&mut store)?;
+    assert_eq!(rt; shown, View::No);
+    assert_eq!(rt; bit, Some(64));
+    let ([low, high], same) = parts_by_bit_0(&mut store)?;
     assert_eq!(rt;
-        store.view(&low),
+        low,
         View::Test {
             bit: 0,
             low: whole,
@@ -84,41 +105,50 @@ fn nodes_of_equal_regions(rt: HostRuntime) -> Result<(), Fail> {
         }
     );
     assert_eq!(rt;
-        store.view(&high),
+        high,
         View::Test {
             bit: 0,
             low: none,
             high: whole
         }
     );
-    assert!(rt; again == high && store.same(&again, &high));
-    assert!(rt; store.same(&both, &whole) && store.same(&neither, &none));
-    assert!(rt; !store.same(&low, &high));
+    assert_eq!(rt; same, [true, true, true, false]);
     Ok(())
+}
+
+// The least headers of two regions of pairs, of each without the other, and of what they have in common;
+// whether the first has one header and without the second another; and whether the parts are together
+// the same node as both.
+fn pairs(store: &mut Diagrams) -> Result<([Option<Header>; 5], [bool; 3]), AllocError> {
+    let even = with_some_pair(store, 0)?;
+    let odd = with_some_pair(store, 1)?;
+    let even_alone = store.minus(&even, &odd)?;
+    let odd_alone = store.minus(&odd, &even)?;
+    let both = store.meet(&even, &odd)?;
+    let some = store.join(&even, &odd)?;
+    let alone = store.join(&even_alone, &odd_alone)?;
+    let together = store.join(&alone, &both)?;
+    let leasts = [
+        store.least(&even),
+        store.least(&odd),
+        store.least(&even_alone),
+        store.least(&odd_alone),
+        store.least(&both),
+    ];
+    let said = [
+        store.has(&even, &between(0x5555_5555, 0x6666_6666)),
+        store.has(&even_alone, &between(0x1555_5555, 0x0c01_0203)),
+        store.same(&some, &together),
+    ];
+    Ok((leasts, said))
 }
 
 // 60 blocks that leave some 2 ^ 30 headers which no few blocks could hold.
 #[test]
 fn pairs_of_bits(rt: HostRuntime) -> Result<(), Fail> {
     let mut store = Diagrams::new(rt.alloc())?;
-    let even = with_some_pair(&mut store, 0)?;
-    let odd = with_some_pair(&mut store, 1)?;
-    assert_eq!(rt; store.least(&even), Some(between(0, 3)));
-    assert_eq!(rt; store.least(&odd), Some(between(0, 6)));
-    assert_eq!(rt; store.has(&even, &between(0x5555_5555, 0x6666_6666)), false);
-    let even_alone = store.minus(&even, &odd)?;
-    assert_eq!(rt; store.least(&even_alone), Some(between(0, 3)));
-    assert_eq!(rt;
-        store.has(&even_alone, &between(0x1555_5555, 0x0c01_0203)),
-        true
-    );
-    let odd_alone = store.minus(&odd, &even)?;
-    assert_eq!(rt; store.least(&odd_alone), Some(between(0, 6)));
-    let both = store.meet(&even, &odd)?;
-    assert_eq!(rt; store.least(&both), Some(between(0, 7)));
-    let some = store.join(&even, &odd)?;
-    let alone = store.join(&even_alone, &odd_alone)?;
-    let put_together = store.join(&alone, &both)?;
-    assert!(rt; store.same(&some, &put_together));
+    let (leasts, said) = pairs(&mut store)?;
+    assert_eq!(rt; leasts, [3, 6, 3, 6, 7].map(|dst| Some(between(0, dst))));
+    assert_eq!(rt; said, [false, true, true]);
     Ok(())
 }

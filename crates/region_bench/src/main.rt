@@ -10,10 +10,8 @@ use np_cut::list_region;
 use np_region::Regions;
 use np_text::Name;
 use std::alloc::{AllocError, Global};
-use std::env;
-use std::fs;
-use std::io;
 use std::string::String;
+use std::{env, fs, io};
 
 /// A list's line.
 fn put_list(
@@ -26,7 +24,10 @@ fn put_list(
     let region = list_region(alloc, store, list)?;
     let nodes = store.count();
     let line = match store.least(&region) {
-        Some(h) => format!(in alloc; "{nodes} nodes, {} {} {} {} {}\n", h.src, h.dst, h.proto, h.a, h.b)?,
+        Some(h) => format!(in alloc;
+            "{nodes} nodes, {} {} {} {} {}\n",
+            h.src, h.dst, h.proto, h.a, h.b
+        )?,
         None => format!(in alloc; "{nodes} nodes, nothing\n")?,
     };
     text.push_str(line.as_str())

@@ -1,3 +1,4 @@
 mod Loads
 mod OneReport
 mod Outcomes
+pub mod Reports

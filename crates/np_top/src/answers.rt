@@ -71,7 +71,7 @@ fn verdicts<G: Regions>(
     let applied = apply(alloc, net, configs)?;
     let atoms = filter_atoms(alloc, store, net, &applied)?;
     let case = case_of(alloc, store, net, &applied, &atoms)?;
-    judge(alloc, net, &case)
+    Ok(judge(alloc, net, &case)?)
 }
 
 /// The answer to `check`: the report on the goals.
@@ -82,7 +82,7 @@ fn check<G: Regions>(alloc: Global, store: &mut G, inputs: Inputs) -> Result<Ans
 {
     let Inputs { net, configs } = inputs;
     let verdicts = verdicts(alloc, store, &net, configs)?;
-    verdicts_report(alloc, &net, verdicts.as_slice())
+    Ok(verdicts_report(alloc, &net, verdicts.as_slice())?)
 }
 
 /// The answer to `atoms`: the report on the atoms.
@@ -94,7 +94,7 @@ fn atoms<G: Regions>(alloc: Global, store: &mut G, inputs: Inputs) -> Result<Ans
     let Inputs { net, configs } = inputs;
     let applied = apply(alloc, &net, configs)?;
     let atoms = filter_atoms(alloc, store, &net, &applied)?;
-    atoms_report(alloc, &net, &applied, &atoms)
+    Ok(atoms_report(alloc, &net, &applied, &atoms)?)
 }
 
 /// The answer to `show`: the network's canonical text.
@@ -102,7 +102,7 @@ fn show(alloc: Global, net: Network) -> Result<Answer, AllocError>
     ensures report { IfOk result (λ answer. IsCanonical net answer.text answer.status) }
     ensures settled { IfOk result (λ answer. IsSettled answer.status × (answer.status ≢ Status.Usage)) }
 {
-    canonical(alloc, &net)
+    Ok(canonical(alloc, &net)?)
 }
 
 /// The answer to a command over files that are not refused.

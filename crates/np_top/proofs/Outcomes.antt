@@ -23,7 +23,7 @@ one_answer Is one None s t x y a b = absurd a
 one_answer Is one (Some (Err refusal)) s t x y a b = (a.0 ∙ sym b.0, a.1 ∙ sym b.1)
 one_answer Is one (Some (Ok z)) s t x y a b = one z s t x y a b
 
-one_answer_to : (files : Files) (command : Command) (s t : List ℕ) (x y : Status) → IsAnswerTo files command s x → IsAnswerTo files command t y → Same s x t y
+pub one_answer_to : (files : Files) (command : Command) (s t : List ℕ) (x y : Status) → IsAnswerTo files command s x → IsAnswerTo files command t y → Same s x t y
 one_answer_to files (check file) s t x y a b =
     one_answer IsCheckReportOn (λ inputs s t x y a b. one_check_report inputs.net inputs.configs s t x y a b) (inputs_of files file) s t x y a b
 one_answer_to files (atoms file) s t x y a b =
@@ -63,11 +63,13 @@ is_one_outcome = record {
   defined = outcome_defined;
 }
 
+-- ---- a run
+
 -- the outcome of words that fit no command
 pub usage_outcome : (words : List (List ℕ)) (files : Files) → None ≡ command_of words → IsOutcome words files usage_text Usage
 usage_outcome words files fits = rw (← fits) (refl, refl)
 
--- the outcome of a command
+-- the outcome of a command is its answer
 pub answer_outcome : (words : List (List ℕ)) (files : Files) (command : Command) (text : List ℕ) (status : Status) → Some command ≡ command_of words →
     IsAnswerTo files command text status → IsOutcome words files text status
 answer_outcome words files command text status fits answer = rw (← fits) answer
@@ -86,22 +88,20 @@ is_unless_fault Memory = tt
 abbrev pub IsWritten : Option (List ℕ) → Option (List ℕ) → List ℕ → Status → Type 0 → Status → Type 0
 IsWritten old new text status Fault result = ((result ≡ status) × Took old new text) ⊎ ((result ≡ WriteFault) × TookPrefix old new text × Fault)
 
-pub written_whole : (words : List (List ℕ)) (files : Files) (text : List ℕ) (status result : Status) (old new : Option (List ℕ)) (Fault : Type 0) →
-    IsOutcome words files text status → IsWritten old new text status Fault result → IsSettled result →
-    (whole : List ℕ) × IsOutcome words files whole result × Took old new whole
-written_whole words files text status result old new Fault outcome (inl w) settled = (text, subst (λ s. IsOutcome words files text s) (sym w.0) outcome, w.1)
-written_whole words files text status result old new Fault outcome (inr w) settled = absurd (subst IsSettled w.0 settled)
+-- what is written whole, where it is what is to be written by `Is`
+pub written_whole : (Is : List ℕ → Status → Type 0) (text : List ℕ) (status result : Status) (old new : Option (List ℕ)) (Fault : Type 0) →
+    Is text status → IsWritten old new text status Fault result → IsSettled result → (whole : List ℕ) × Is whole result × Took old new whole
+written_whole Is text status result old new Fault is (inl w) settled = (text, subst (Is text) (sym w.0) is, w.1)
+written_whole Is text status result old new Fault is (inr w) settled = absurd (subst IsSettled w.0 settled)
 
-pub written_part : (words : List (List ℕ)) (files : Files) (text : List ℕ) (status result : Status) (old new : Option (List ℕ)) (Fault : Type 0) →
-    IsOutcome words files text status → IsSettled status → IsWritten old new text status Fault result → result ≡ WriteFault →
-    (whole : List ℕ) × (own : Status) × IsOutcome words files whole own × TookPrefix old new whole
-written_part words files text status result old new Fault outcome settled (inl w) is = absurd (subst IsSettled (sym w.0 ∙ is) settled)
-written_part words files text status result old new Fault outcome settled (inr w) is = (text, status, outcome, w.1)
+-- what is written in part
+pub written_part : (Is : List ℕ → Status → Type 0) (text : List ℕ) (status result : Status) (old new : Option (List ℕ)) (Fault : Type 0) →
+    Is text status → IsSettled status → IsWritten old new text status Fault result → result ≡ WriteFault →
+    (whole : List ℕ) × (own : Status) × Is whole own × TookPrefix old new whole
+written_part Is text status result old new Fault is settled (inl w) fault = absurd (subst IsSettled (sym w.0 ∙ fault) settled)
+written_part Is text status result old new Fault is settled (inr w) fault = (text, status, is, w.1)
 
-pub written_only : (words : List (List ℕ)) (files : Files) (text : List ℕ) (status result : Status) (old new : Option (List ℕ)) (Fault : Type 0) →
-    IsOutcome words files text status → IsWritten old new text status Fault result →
-    (other : List ℕ) (own : Status) → IsOutcome words files other own → IsUnlessFault own result
-written_only words files text status result old new Fault outcome (inl w) other own is =
-    let same : status ≡ own = (one_outcome words files text other status own outcome is).1 in
-    subst (λ s. IsUnlessFault own s) (sym (w.0 ∙ same)) (is_unless_fault own)
-written_only words files text status result old new Fault outcome (inr w) other own is = subst (λ s. IsUnlessFault own s) (sym w.0) tt
+-- the status of what is written is the one that is to come with it
+pub written_only : (status own result : Status) (old new : Option (List ℕ)) (text : List ℕ) (Fault : Type 0) → status ≡ own → IsWritten old new text status Fault result → IsUnlessFault own result
+written_only status own result old new text Fault same (inl w) = subst (IsUnlessFault own) (sym (w.0 ∙ same)) (is_unless_fault own)
+written_only status own result old new text Fault same (inr w) = subst (IsUnlessFault own) (sym w.0) tt

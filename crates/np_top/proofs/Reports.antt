@@ -28,10 +28,11 @@ cross_so : (interfaces : List Interface) (f g : ℕ → Bool) → AgreeAt interf
 cross_so interfaces f g agree [] a b leads cross = tt
 cross_so interfaces f g agree (hop ∷ hops) a b leads cross =
     let first = leads.0.0 in
-    let second = leads.0.1 in
-    ( sym (agree (2 * hop.0) (omega (arith, first))) ∙ cross.0
-    , sym (agree (2 * hop.1 + 1) (omega (arith, second))) ∙ cross.1
-    , cross_so interfaces f g agree hops (area_of interfaces hop.1) b leads.2 cross.2)
+    let second = leads.0.1 in (
+      sym (agree (2 * hop.0) (omega (arith, first))) ∙ cross.0,
+      sym (agree (2 * hop.1 + 1) (omega (arith, second))) ∙ cross.1,
+      cross_so interfaces f g agree hops (area_of interfaces hop.1) b leads.2 cross.2,
+    )
 
 carries_so : (interfaces : List Interface) (f g : ℕ → Bool) → AgreeAt interfaces f g → (a : ℕ) (hops : List (ℕ × ℕ)) (b : ℕ) → Carries interfaces f a hops b → Carries interfaces g a hops b
 carries_so interfaces f g agree a hops b carries = record {
@@ -65,12 +66,13 @@ breaks_so interfaces f g agree goal h breaks = record {
 -- a verdict is right by both or by neither
 pub verdict_so : (interfaces : List Interface) (f g : ℕ → Header → Bool) → Agree interfaces f g → (goal : Goal) (v : Verdict) → IsVerdict interfaces f goal v → IsVerdict interfaces g goal v
 verdict_so interfaces f g agree goal Holds right = λ h breaks. right h (breaks_so interfaces g f (λ slot within h. sym (agree slot within h)) goal h breaks)
-verdict_so interfaces f g agree goal (Violated header path) right =
-    ( record {
-        has = breaks_so interfaces f g agree goal header right.0.has;
-        least = λ h breaks. right.0.least h (breaks_so interfaces g f (λ slot within h. sym (agree slot within h)) goal h breaks);
-      }
-    , first_so interfaces (λ slot. f slot header) (λ slot. g slot header) (λ slot within. agree slot within header) goal.from path.hops goal.to right.1)
+verdict_so interfaces f g agree goal (Violated header path) right = (
+  record {
+    has = breaks_so interfaces f g agree goal header right.0.has;
+    least = λ h breaks. right.0.least h (breaks_so interfaces g f (λ slot within h. sym (agree slot within h)) goal h breaks);
+  },
+  first_so interfaces (λ slot. f slot header) (λ slot. g slot header) (λ slot within. agree slot within header) goal.from path.hops goal.to right.1,
+)
 
 -- ---- the interfaces of the paths
 

@@ -1,0 +1,109 @@
+-- What the commands' steps give, as what their reports need.
+use Rattle.std.proofs.Common.{◌≡◌, ℕ, ◌<◌, ◌*◌, ◌+◌, Bool, true, false, List, [], ◌∷◌, length, get_or, map, refl, arith, sym, ◌∙◌, ap, subst}
+use Rattle.std.specs.List.{All, AllByRecursion}
+use Rattle.std.proofs.lemmas.List.{get_or_default, get_or-map, length-map}
+use Rattle.std.proofs.lemmas.List.Elements.{All-from_recursion}
+use Rattle.np_space.specs.Header.{IsLeastOf}
+use Rattle.np_space.specs.declared.headers.Header.{Header}
+use Rattle.np_atomizer.specs.Atoms.{cut_sets, leasts_of}
+use Rattle.np_atomizer.specs.declared.atom_list.Atom.{Atom}
+use Rattle.np_net.specs.Path.{IsHop, Leads, IsPath, area_of}
+use Rattle.np_net.specs.declared.filtering.Goal.{Goal}
+use Rattle.np_net.specs.declared.filtering.Interface.{Interface}
+use Rattle.np_flow.specs.Carrying.{AllCross, Carries, Reaches, IsFirstPath}
+use Rattle.np_goals.specs.Cases.{goal_at}
+use Rattle.np_goals.specs.Verdicts.{Breaks, IsVerdict}
+use Rattle.np_goals.specs.declared.verdicts.Verdict.{Verdict}
+use Rattle.np_goals.specs.declared.verdicts.Verdict.TheVariants.{Holds, Violated}
+use Rattle.np_pred.specs.declared.predicate.Pred.TheVariants.{Any}
+use Rattle.np_report.specs.Verdicts.{HasInterfaces}
+
+-- ---- what crosses the slots may be said in two ways
+
+-- both say the same of each slot of these interfaces
+abbrev pub AgreeAt : List Interface → (ℕ → Bool) → (ℕ → Bool) → Type 0
+AgreeAt interfaces f g = (slot : ℕ) → slot < 2 * length interfaces → f slot ≡ g slot
+
+cross_so : (interfaces : List Interface) (f g : ℕ → Bool) → AgreeAt interfaces f g → (hops : List (ℕ × ℕ)) (a b : ℕ) → Leads interfaces a hops b → AllCross f hops → AllCross g hops
+cross_so interfaces f g agree [] a b leads cross = tt
+cross_so interfaces f g agree (hop ∷ hops) a b leads cross =
+    let first = leads.0.0 in
+    let second = leads.0.1 in (
+      sym (agree (2 * hop.0) (omega (arith, first))) ∙ cross.0,
+      sym (agree (2 * hop.1 + 1) (omega (arith, second))) ∙ cross.1,
+      cross_so interfaces f g agree hops (area_of interfaces hop.1) b leads.2 cross.2,
+    )
+
+carries_so : (interfaces : List Interface) (f g : ℕ → Bool) → AgreeAt interfaces f g → (a : ℕ) (hops : List (ℕ × ℕ)) (b : ℕ) → Carries interfaces f a hops b → Carries interfaces g a hops b
+carries_so interfaces f g agree a hops b carries = record {
+  path = carries.path;
+  cross = cross_so interfaces f g agree hops a b carries.path.leads carries.cross;
+}
+
+turned : (interfaces : List Interface) (f g : ℕ → Bool) → AgreeAt interfaces f g → AgreeAt interfaces g f
+turned interfaces f g agree = λ slot within. sym (agree slot within)
+
+first_so : (interfaces : List Interface) (f g : ℕ → Bool) → AgreeAt interfaces f g → (a : ℕ) (hops : List (ℕ × ℕ)) (b : ℕ) → IsFirstPath interfaces f a hops b → IsFirstPath interfaces g a hops b
+first_so interfaces f g agree a hops b is = record {
+  carries = carries_so interfaces f g agree a hops b is.carries;
+  first = λ others carries. is.first others (carries_so interfaces g f (turned interfaces f g agree) a others b carries);
+}
+
+-- both say the same of each slot and each header
+abbrev pub Agree : List Interface → (ℕ → Header → Bool) → (ℕ → Header → Bool) → Type 0
+Agree interfaces f g = (slot : ℕ) → slot < 2 * length interfaces → (h : Header) → f slot h ≡ g slot h
+
+breaks_so : (interfaces : List Interface) (f g : ℕ → Header → Bool) → Agree interfaces f g → (goal : Goal) (h : Header) → Breaks interfaces f goal h → Breaks interfaces g goal h
+breaks_so interfaces f g agree goal h breaks = record {
+  valid = breaks.valid;
+  forbidden = breaks.forbidden;
+  reaches = record {
+    hops = breaks.reaches.hops;
+    carries = carries_so interfaces (λ slot. f slot h) (λ slot. g slot h) (λ slot within. agree slot within h) goal.from breaks.reaches.hops goal.to breaks.reaches.carries;
+  };
+}
+
+-- a verdict is right by both or by neither
+pub verdict_so : (interfaces : List Interface) (f g : ℕ → Header → Bool) → Agree interfaces f g → (goal : Goal) (v : Verdict) → IsVerdict interfaces f goal v → IsVerdict interfaces g goal v
+verdict_so interfaces f g agree goal Holds right = λ h breaks. right h (breaks_so interfaces g f (λ slot within h. sym (agree slot within h)) goal h breaks)
+verdict_so interfaces f g agree goal (Violated header path) right = (
+  record {
+    has = breaks_so interfaces f g agree goal header right.0.has;
+    least = λ h breaks. right.0.least h (breaks_so interfaces g f (λ slot within h. sym (agree slot within h)) goal h breaks);
+  },
+  first_so interfaces (λ slot. f slot header) (λ slot. g slot header) (λ slot within. agree slot within header) goal.from path.hops goal.to right.1,
+)
+
+-- ---- the interfaces of the paths
+
+hops_within : (interfaces : List Interface) (hops : List (ℕ × ℕ)) (a b : ℕ) → Leads interfaces a hops b → AllByRecursion (λ hop. (hop.0 < length interfaces) × (hop.1 < length interfaces)) hops
+hops_within interfaces [] a b leads = tt
+hops_within interfaces (hop ∷ hops) a b leads = ((leads.0.0, leads.0.1), hops_within interfaces hops (area_of interfaces hop.1) b leads.2)
+
+verdict_within : (interfaces : List Interface) (lets : ℕ → Header → Bool) (goal : Goal) (v : Verdict) → IsVerdict interfaces lets goal v → HasInterfaces interfaces v
+verdict_within interfaces lets goal Holds right = tt
+verdict_within interfaces lets goal (Violated header path) right =
+    All-from_recursion (λ hop. (hop.0 < length interfaces) × (hop.1 < length interfaces)) path.hops (hops_within interfaces path.hops goal.from goal.to right.1.carries.path.leads)
+
+-- right verdicts name interfaces that there are
+pub verdicts_within : (interfaces : List Interface) (lets : ℕ → Header → Bool) (goals : List Goal) (vs : List Verdict) → length vs ≡ length goals →
+    ((k : ℕ) (d : Goal) → k < length goals → IsVerdict interfaces lets (goal_at goals d k) (get_or vs k Holds)) → All (HasInterfaces interfaces) vs
+verdicts_within interfaces lets goals vs count right = λ k d within.
+    let here : k < length goals = omega arith in
+    let goal : Goal = record { from = 0; to = 0; only = false; pred = Any } in
+    subst (HasInterfaces interfaces) (get_or_default vs k Holds d within) (verdict_within interfaces lets (goal_at goals goal k) (get_or vs k Holds) (right k goal here))
+
+-- ---- the atoms
+
+cut_lengths : (tests : List (Header → Bool)) (leasts : List Header) (k : ℕ) → k < length (cut_sets tests leasts) → length (get_or (cut_sets tests leasts) k []) ≡ length leasts
+cut_lengths tests leasts k within =
+    let here : k < length tests = omega (arith, length-map tests (λ test. map test leasts)) in
+    let d : Header → Bool = λ h. false in
+    ap length (get_or-map (λ test. map test leasts) tests k d [] here) ∙ length-map leasts (get_or tests k d)
+
+-- each cut's set is of all atoms
+pub set_lengths : {R : Type 0} (tests : List (Header → Bool)) (atoms : List (Atom R)) (sets : List (List Bool)) → sets ≡ cut_sets tests (leasts_of atoms) →
+    (k : ℕ) → k < length sets → length (get_or sets k []) ≡ length atoms
+set_lengths tests atoms sets are k within =
+    let here : k < length (cut_sets tests (leasts_of atoms)) = subst (λ s. k < length s) are within in
+    ap (λ s. length (get_or s k [])) are ∙ cut_lengths tests (leasts_of atoms) k here ∙ length-map atoms (λ a. a.least)

@@ -1,0 +1,8 @@
+use Rattle.np_atomizer.specs.Atoms.{atoms_in, sets_in}
+use Rattle.np_cut.specs.FilterCuts.{filter_tests}
+use Rattle.np_top.proofs.Reports.{set_lengths}
+use Rattle.np_top.proofs.answers.atoms.Goals as goal
+
+pub atoms_report-requires-clause-sets : goal.atoms_report-requires-clause-sets
+atoms_report-requires-clause-sets g c =
+    set_lengths (filter_tests c.in_ok-applied.applied.lists c.args.inputs.net.goals) (atoms_in c.in_ok-atoms.atoms) (sets_in c.in_ok-atoms.atoms) c.in_ok-atoms.ensures.atoms.sets

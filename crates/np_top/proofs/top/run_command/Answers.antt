@@ -1,0 +1,19 @@
+use Rattle.np_top.specs.Commands.{command_in}
+use Rattle.np_top.specs.Outcome.{IsAnswerTo}
+use Rattle.np_top.proofs.Outcomes.{one_answer_to, written_whole, written_part, written_only}
+use Rattle.np_top.proofs.top.run_command.Goals as goal
+
+pub returns-in-Ok-clause-outcome : goal.returns-in-Ok-clause-outcome
+returns-in-Ok-clause-outcome g c = λ settled files told.
+    written_whole (IsAnswerTo files (command_in c.args.command)) c.in-Ok.answer.text c.in-Ok.answer.status c.write.result _ _ _
+    (c.in-Ok.ensures.ok files told) (rw c.as_slice.ensures at c.write.ensures.written) settled
+
+pub returns-in-Ok-clause-only : goal.returns-in-Ok-clause-only
+returns-in-Ok-clause-only g c = λ files text status told answer.
+    written_only c.in-Ok.answer.status status c.write.result _ _ _ _
+    (one_answer_to files (command_in c.args.command) c.in-Ok.answer.text text c.in-Ok.answer.status status (c.in-Ok.ensures.ok files told) answer).1 c.write.ensures.written
+
+pub returns-in-Ok-clause-write_prefix : goal.returns-in-Ok-clause-write_prefix
+returns-in-Ok-clause-write_prefix g c = λ is files told.
+    written_part (IsAnswerTo files (command_in c.args.command)) c.in-Ok.answer.text c.in-Ok.answer.status c.write.result _ _ _
+    (c.in-Ok.ensures.ok files told) c.in-Ok.ensures.settled.0 (rw c.as_slice.ensures at c.write.ensures.written) is

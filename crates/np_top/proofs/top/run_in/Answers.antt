@@ -1,0 +1,19 @@
+use Rattle.np_top.specs.declared.status.Status.TheVariants.{Usage}
+use Rattle.np_top.specs.Commands.{command_in}
+use Rattle.np_top.specs.Outcome.{texts_of, IsOutcome}
+use Rattle.np_top.specs.Report.{usage_text}
+use Rattle.np_top.proofs.Outcomes.{usage_outcome, answer_outcome, written_whole, written_part}
+use Rattle.np_top.proofs.top.run_in.Goals as goal
+
+pub returns-in_default-clause-outcome : goal.returns-in_default-clause-outcome
+returns-in_default-clause-outcome g c = λ settled files told.
+    written_whole (IsOutcome (texts_of c.args.words.now) files) usage_text Usage c.write.result _ _ _ (usage_outcome (texts_of c.args.words.now) files c.in_default.ensures) c.write.ensures.written settled
+
+pub returns-in_default-clause-write_prefix : goal.returns-in_default-clause-write_prefix
+returns-in_default-clause-write_prefix g c = λ is files told.
+    written_part (IsOutcome (texts_of c.args.words.now) files) usage_text Usage c.write.result _ _ _ (usage_outcome (texts_of c.args.words.now) files c.in_default.ensures) tt c.write.ensures.written is
+
+pub returns-clause-write_prefix : goal.returns-clause-write_prefix
+returns-clause-write_prefix g c = λ is files told.
+    let p = c.run_command.ensures.write_prefix is files told in
+    (p.0, p.1, answer_outcome (texts_of c.args.words.now) files (command_in c.in-Some.command) p.0 p.1 c.in-Some.ensures p.2, p.3)

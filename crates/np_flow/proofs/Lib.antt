@@ -1,2 +1,6 @@
+pub mod DistanceLaws
+pub mod HopLaws
 pub mod JoinLaws
+pub mod LeastLaws
+pub mod PathLaws
 pub mod SpreadLaws

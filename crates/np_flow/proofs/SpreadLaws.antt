@@ -9,14 +9,6 @@ use Rattle.np_flow.specs.Spread.{has_atom, AreEmpty, Begins, Enters, Leaves, Add
 
 -- ---- one interface after another
 
-pub added_none : (P : ℕ → ℕ → Type 0) (to : ℕ → ℕ) (sets : List (List Bool)) → AreAdded P to 0 sets sets
-added_none P to sets = record {
-  widths = λ w same. same;
-  kept = λ k atom has. has;
-  all = λ n atom lt p. absurd (omega arith);
-  only = λ k atom has. inl has;
-}
-
 pub added_more : (P : ℕ → ℕ → Type 0) (to : ℕ → ℕ) (n : ℕ) (old mid new : List (List Bool))
     → AreAdded P to n old mid → Adds (P n) (to n) mid new → AreAdded P to (n + 1) old new
 added_more P to n old mid new before adds = record {

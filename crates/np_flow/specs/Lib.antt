@@ -1,3 +1,4 @@
 pub mod Postures
 pub mod Carrying
 pub mod Spread
+pub mod Distances

@@ -1,11 +1,12 @@
 //! Which atoms reach which areas of a network, and by which paths, where each slot lets some atoms cross.
 #![tactic(auto)]
 
-mod path_search;
+mod distances;
 mod posture;
 mod rounds;
+mod shortest;
 mod spreading;
 
-pub use path_search::first_path;
 pub use posture::Posture;
+pub use shortest::first_path;
 pub use spreading::{Reached, flow};

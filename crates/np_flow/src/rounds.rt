@@ -5,13 +5,13 @@ ghost use Rattle.std.specs.Bool.{OnFalse, OnTrue};
 ghost use Rattle.np_atomset.specs.AtomSet.{has_member};
 ghost use Rattle.np_net.specs.Path as path;
 ghost use Rattle.np_flow.specs.Postures.{atom_count, AllHaveLength};
-ghost use Rattle.np_flow.specs.Spread.{total, AreEmpty, AreWithin, Begins, Enters, Leaves, Adds, AreAdded, AreEntered, AreReached, HoldReached};
+ghost use Rattle.np_flow.specs.Spread.{total, AreEmpty, AreWithin, Begins, Enters, Leaves, Adds, AreAdded, AreReached, HoldReached};
 
 use np_atomset::AtomSet;
 use np_net::{AreaId, DevId, Interface};
 
 /// The device of interface `n`.
-fn device_of(interfaces: &[Interface], n: usize) -> DevId
+pub(crate) fn device_of(interfaces: &[Interface], n: usize) -> DevId
     requires { n < length interfaces.now }
     ensures { result ≡ path.device_of interfaces.now n }
 {
@@ -19,7 +19,7 @@ fn device_of(interfaces: &[Interface], n: usize) -> DevId
 }
 
 /// The area of interface `n`.
-fn area_of(interfaces: &[Interface], n: usize) -> AreaId
+pub(crate) fn area_of(interfaces: &[Interface], n: usize) -> AreaId
     requires { n < length interfaces.now }
     ensures { result ≡ path.area_of interfaces.now n }
 {

@@ -1,1 +1,117 @@
 //! Words and lines that several reports have.
+
+ghost use Rattle.std.specs.Prelude.{◌≡◌, ◌++◌, ◌∷◌, ◌<◌, [], length, OnOk};
+ghost use Rattle.std.specs.Fmt.{decimal};
+ghost use Rattle.std.specs.List.{All};
+ghost use Rattle.np_text.specs.Addresses.{dotted};
+ghost use Rattle.np_space.specs.Flag.{flag_number};
+ghost use Rattle.np_net.specs.Path as path;
+ghost use Rattle.np_net_read.specs.CanonicalText.{line_text, lines_text, spaced};
+ghost use Rattle.np_report.specs.Words.{dscp_words, header_words, hop_words, hop_lines};
+
+use np_net::{DevId, IfId, Network, device_name, interface_name};
+use np_space::Header;
+use np_text::{put_address, put_number};
+use std::alloc::AllocError;
+
+// Appends a word after a space.
+pub(crate) fn put_word(text: &mut Vec<u8>, word: &[u8]) -> Result<(), AllocError>
+    ensures { OnOk result (text.new.items ≡ text.old.items ++ 32 ∷ word.now) }
+{
+    text.push(b' ')?;
+    text.extend_from_slice(word)?;
+    Ok(())
+}
+
+// Appends a number in decimal after a space.
+pub(crate) fn put_number_word(text: &mut Vec<u8>, value: u64) -> Result<(), AllocError>
+    ensures { OnOk result (text.new.items ≡ text.old.items ++ 32 ∷ decimal value) }
+{
+    text.push(b' ')?;
+    put_number(text, value)?;
+    Ok(())
+}
+
+fn flag_number(flag: bool) -> u64
+    ensures { result ≡ flag_number flag }
+{
+    if flag { 1 } else { 0 }
+}
+
+// Appends an address after a space.
+fn put_address_word(text: &mut Vec<u8>, address: u32) -> Result<(), AllocError>
+    ensures { OnOk result (text.new.items ≡ text.old.items ++ 32 ∷ dotted address) }
+{
+    text.push(b' ')?;
+    put_address(text, address)?;
+    Ok(())
+}
+
+// Appends the word of a code point after a space, or nothing where it is 0.
+fn put_dscp(text: &mut Vec<u8>, dscp: u8) -> Result<(), AllocError>
+    ensures { OnOk result (text.new.items ≡ text.old.items ++ spaced (dscp_words dscp)) }
+{
+    if dscp == 0 {
+        return Ok(());
+    }
+    put_word(text, b"dscp=")?;
+    put_number(text, u64::from(dscp))?;
+    Ok(())
+}
+
+// Appends the words of a header's addresses and of its protocol, each after a space.
+fn put_ends(text: &mut Vec<u8>, src: u32, dst: u32, proto: u8) -> Result<(), AllocError>
+    ensures { OnOk result (text.new.items ≡ text.old.items ++ spaced (dotted src ∷ dotted dst ∷ decimal proto ∷ [])) }
+{
+    put_address_word(text, src)?;
+    put_address_word(text, dst)?;
+    put_number_word(text, u64::from(proto))
+}
+
+// Appends the words of a header, each after a space.
+pub(crate) fn put_header(text: &mut Vec<u8>, h: &Header) -> Result<(), AllocError>
+    ensures { OnOk result (text.new.items ≡ text.old.items ++ spaced (header_words h.now)) }
+{
+    put_ends(text, h.src, h.dst, h.proto)?;
+    put_number_word(text, u64::from(h.a))?;
+    put_number_word(text, u64::from(h.b))?;
+    put_number_word(text, flag_number(h.est))?;
+    put_dscp(text, h.dscp)
+}
+
+// The device that an interface belongs to.
+fn device_of(net: &Network, id: IfId) -> DevId
+    requires { id < length net.now.interfaces }
+    ensures { result ≡ path.device_of net.now.interfaces id }
+{
+    net.interfaces.as_slice()[id as usize].device
+}
+
+// Appends the line of a hop.
+fn put_hop(text: &mut Vec<u8>, net: &Network, hop: (IfId, IfId)) -> Result<(), AllocError>
+    requires { hop.0 < length net.now.interfaces }
+    ensures { OnOk result (text.new.items ≡ text.old.items ++ line_text (hop_words net.now hop)) }
+{
+    let (inward, outward) = hop;
+    text.extend_from_slice(b"hop")?;
+    put_word(text, device_name(net, device_of(net, inward)))?;
+    put_word(text, interface_name(net, inward))?;
+    put_word(text, interface_name(net, outward))?;
+    text.push(b'\n')?;
+    Ok(())
+}
+
+// Appends the lines of hops.
+pub(crate) fn put_hops(
+    text: &mut Vec<u8>,
+    net: &Network,
+    hops: &[(IfId, IfId)],
+) -> Result<(), AllocError>
+    requires { All (λ hop. (hop.0 < length net.now.interfaces) × (hop.1 < length net.now.interfaces)) hops.now }
+    ensures { OnOk result (text.new.items ≡ text.old.items ++ lines_text (hop_lines net.now hops.now)) }
+{
+    for hop in hops {
+        put_hop(text, net, *hop)?;
+    }
+    Ok(())
+}

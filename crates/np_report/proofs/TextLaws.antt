@@ -2,10 +2,9 @@
 use Rattle.std.proofs.Common.{◌≡◌, ℕ, List, [], ◌∷◌, ◌++◌, sym, ap, ◌∙◌, append_assoc, append-nil}
 use Rattle.std.specs.List.{flat_map}
 use Rattle.std.proofs.lemmas.List.Folds.{flat_map-map}
-use Rattle.std.proofs.lemmas.Grind.{flat_map-append}
 use Rattle.np_net.specs.Plan.{Plan}
-use Rattle.np_net_read.specs.CanonicalText.{spaced, line_text, lines_text}
-use Rattle.np_net_read.proofs.CanonicalLaws.{lines_text-joined}
+use Rattle.np_net_read.specs.CanonicalText.{line_text, lines_text}
+use Rattle.np_net_read.proofs.CanonicalLaws.{lines_text-joined, lines_text-append}
 use Rattle.np_report.specs.Words.{text_of, hop_words, hop_lines}
 
 -- the text of lines is that of one line after another
@@ -15,10 +14,6 @@ lines_appended lines = sym (lines_text-joined lines)
 -- the text of one line
 pub one_line : (words : List (List ℕ)) → text_of (words ∷ []) ≡ line_text words
 one_line words = lines_appended (words ∷ []) ∙ append-nil (line_text words)
-
--- the text of some lines, and then of others
-pub lines_text-append : (before behind : List (List (List ℕ))) → lines_text (before ++ behind) ≡ lines_text before ++ lines_text behind
-lines_text-append before behind = flat_map-append line_text before behind
 
 -- the lines of hops are appended hop by hop
 pub hop_lines_appended : (net : Plan) (hops : List (ℕ × ℕ)) → lines_text (hop_lines net hops) ≡ flat_map (λ hop. line_text (hop_words net hop)) hops

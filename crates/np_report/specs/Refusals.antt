@@ -1,7 +1,6 @@
 -- What is written of a file that is refused.
 use Rattle.std.specs.Prelude.{ℕ, List, [], ◌∷◌, codes}
 use Rattle.std.specs.Fmt.{decimal}
-use Rattle.np_lines.specs.declared.fault.LineFault.{LineFault}
 use Rattle.np_entry_read.specs.declared.fault.ConfigWhy.{ConfigWhy}
 use Rattle.np_entry_read.specs.declared.fault.ConfigWhy.TheVariants as config
 use Rattle.np_net_read.specs.declared.fault.NetWhy.{NetWhy}

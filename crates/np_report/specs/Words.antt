@@ -1,5 +1,5 @@
 -- The lines of reports, as lists of words.
-use Rattle.std.specs.Prelude.{ℕ, ◌==◌, Bool, false, List, [], ◌∷◌, ◌++◌, codes, map, if◌then◌else◌}
+use Rattle.std.specs.Prelude.{ℕ, ◌==◌, false, List, [], ◌∷◌, ◌++◌, codes, map, if◌then◌else◌}
 use Rattle.std.specs.Fmt.{decimal}
 use Rattle.np_text.specs.Joined.{joined_text}
 use Rattle.np_text.specs.Addresses.{dotted}

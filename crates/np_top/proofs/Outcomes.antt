@@ -1,43 +1,18 @@
 -- The outcome of a run: that there is one at most, and how a run's text comes to be it.
 use Rattle.std.proofs.Common.{◌≡◌, ℕ, ◌<◌, ◌⊎◌, inl, inr, Bool, true, false, List, length, Option, Some, None, Result, Ok, Err, refl, arith, sym, ◌∙◌, ap, subst}
-use Rattle.std.proofs.lemmas.List.{ext_get_or}
 use Rattle.std.specs.Prelude.{MatchOption, IsSome}
 use Rattle.np_outside.specs.Files.{Files}
-use Rattle.np_top.specs.declared.network.Goal.{Goal}
-use Rattle.np_top.specs.declared.network.Network.{Network}
-use Rattle.np_top.specs.declared.config.Config.{Config}
 use Rattle.np_top.specs.declared.status.Status.{Status}
 use Rattle.np_top.specs.declared.status.Status.TheVariants.{Holds, Fails, Usage, Refused, ReadFault, WriteFault, Memory}
-use Rattle.np_top.specs.Goals.{IsVerdict, AreVerdicts, goal_at}
 use Rattle.np_net.specs.Plan.{Plan}
-use Rattle.np_top.specs.Commands.{Command, check, show, command_of}
-use Rattle.np_top.specs.Report.{IsReport, usage_text, verdicts_text, verdicts_status}
-use Rattle.np_top.specs.Outcome.{inputs_of, IsAnswer, IsAnswerTo, IsReportOn, HasFiles, IsOutcome, IsDefined, IsOneOutcome}
-use Rattle.np_top.specs.Show.{shown_of, IsCanonical}
+use Rattle.np_top.specs.Commands.{Command, check, atoms, show, command_of}
+use Rattle.np_top.specs.Report.{usage_text}
+use Rattle.np_top.specs.Outcome.{inputs_of, IsAnswer, IsAnswerTo, IsCheckReportOn, IsAtomsReportOn, HasFiles, IsOutcome, IsDefined, IsOneOutcome}
+use Rattle.np_top.specs.Saying.{net_says}
+use Rattle.np_top.specs.Show.{IsCanonical}
 use Rattle.np_top.specs.Status.{IsSettled, IsUnlessFault}
 use Rattle.np_top.specs.Written.{Took, TookPrefix}
-
--- a goal that holds isn't violated
-one_verdict : (net : Network) (configs : List Config) (goal : Goal) (v w : Bool) → IsVerdict net configs goal v → IsVerdict net configs goal w → v ≡ w
-one_verdict net configs goal true true a b = refl
-one_verdict net configs goal true false a b = absurd (a b.hops b.header b.path b.forbidden b.carries)
-one_verdict net configs goal false true a b = absurd (b a.hops a.header a.path a.forbidden a.carries)
-one_verdict net configs goal false false a b = refl
-
-one_verdicts : (net : Network) (configs : List Config) (vs ws : List Bool) → AreVerdicts net configs vs → AreVerdicts net configs ws → vs ≡ ws
-one_verdicts net configs vs ws a b =
-    ext_get_or false vs ws (a.len ∙ sym b.len) (λ n within.
-    let here : n < length net.goals = omega arith in
-    one_verdict net configs (goal_at net.goals n) _ _ (a.each n here) (b.each n here))
-
--- the same text and the same status
-abbrev pub Same : List ℕ → Status → List ℕ → Status → Type 0
-Same text status other_text other_status = (text ≡ other_text) × (status ≡ other_status)
-
-one_report : (net : Network) (configs : List Config) (s t : List ℕ) (x y : Status) → IsReport net configs s x → IsReport net configs t y → Same s x t y
-one_report net configs s t x y a b =
-    let same : a.verdicts ≡ b.verdicts = one_verdicts net configs a.verdicts b.verdicts a.right b.right in
-    (a.text_is ∙ ap verdicts_text same ∙ sym b.text_is, a.status_is ∙ ap verdicts_status same ∙ sym b.status_is)
+use Rattle.np_top.proofs.OneReport.{Same, one_check_report, one_atoms_report}
 
 one_canonical : (net : Plan) (s t : List ℕ) (x y : Status) → IsCanonical net s x → IsCanonical net t y → Same s x t y
 one_canonical net s t x y a b = (a.0 ∙ sym b.0, a.1 ∙ sym b.1)
@@ -50,8 +25,10 @@ one_answer Is one (Some (Ok z)) s t x y a b = one z s t x y a b
 
 one_answer_to : (files : Files) (command : Command) (s t : List ℕ) (x y : Status) → IsAnswerTo files command s x → IsAnswerTo files command t y → Same s x t y
 one_answer_to files (check file) s t x y a b =
-    one_answer IsReportOn (λ inputs s t x y a b. one_report inputs.net inputs.configs s t x y a b) (inputs_of files file) s t x y a b
-one_answer_to files (show file) s t x y a b = one_answer IsCanonical one_canonical (shown_of files file) s t x y a b
+    one_answer IsCheckReportOn (λ inputs s t x y a b. one_check_report inputs.net inputs.configs s t x y a b) (inputs_of files file) s t x y a b
+one_answer_to files (atoms file) s t x y a b =
+    one_answer IsAtomsReportOn (λ inputs s t x y a b. one_atoms_report inputs.net inputs.configs s t x y a b) (inputs_of files file) s t x y a b
+one_answer_to files (show file) s t x y a b = one_answer IsCanonical one_canonical (net_says files file) s t x y a b
 
 -- two outcomes of the same words and files are the same text and status
 pub one_outcome : (words : List (List ℕ)) (files : Files) (s t : List ℕ) (x y : Status) → IsOutcome words files s x → IsOutcome words files t y → Same s x t y
@@ -67,8 +44,9 @@ defined_by Is None text status answer = absurd answer
 defined_by Is (Some says) text status answer = refl
 
 has_files : (files : Files) (command : Command) (text : List ℕ) (status : Status) → IsAnswerTo files command text status → HasFiles files command
-has_files files (check file) text status answer = defined_by IsReportOn (inputs_of files file) text status answer
-has_files files (show file) text status answer = defined_by IsCanonical (shown_of files file) text status answer
+has_files files (check file) text status answer = defined_by IsCheckReportOn (inputs_of files file) text status answer
+has_files files (atoms file) text status answer = defined_by IsAtomsReportOn (inputs_of files file) text status answer
+has_files files (show file) text status answer = defined_by IsCanonical (net_says files file) text status answer
 
 -- an outcome needs its files
 pub outcome_defined : (words : List (List ℕ)) (files : Files) (text : List ℕ) (status : Status) → IsOutcome words files text status → IsDefined words files

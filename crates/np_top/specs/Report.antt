@@ -1,61 +1,45 @@
--- What is written.
-use Rattle.std.specs.Prelude.{◌≡◌, ℕ, ◌+◌, Bool, List, [], ◌∷◌, ◌++◌, codes, if◌then◌else◌}
-use Rattle.std.specs.List.{list_all}
-use Rattle.std.specs.Fmt.{decimal}
-use Rattle.np_top.specs.declared.network.Network.{Network}
-use Rattle.np_top.specs.declared.config.Config.{Config}
+-- What `check` and `atoms` write of a network and the configurations of its devices.
+use Rattle.std.specs.Prelude.{◌≡◌, ℕ, ◌<◌, Bool, List, [], ◌∷◌, ◌++◌, length, slice_index_or, codes, if◌then◌else◌}
+use Rattle.np_space.specs.Classes.{AreLeasts}
+use Rattle.np_space.specs.declared.headers.Header.{Header}
+use Rattle.np_acl_read.specs.declared.config.Config.{Config}
+use Rattle.np_net.specs.Plan.{Plan}
+use Rattle.np_net.specs.declared.filtering.Goal.{Goal}
+use Rattle.np_cut.specs.Applying.{applied_of, slot_lets}
+use Rattle.np_cut.specs.FilterCuts.{filter_tests}
+use Rattle.np_atomizer.specs.Atoms.{cut_sets}
+use Rattle.np_goals.specs.Cases.{goal_at}
+use Rattle.np_goals.specs.Verdicts.{IsVerdict}
+use Rattle.np_goals.specs.declared.verdicts.Verdict.{Verdict}
+use Rattle.np_goals.specs.declared.verdicts.Verdict.TheVariants as verdict
+use Rattle.np_report.specs.Atoms.{atoms_text}
+use Rattle.np_report.specs.Verdicts.{all_hold, verdicts_text}
 use Rattle.np_top.specs.declared.status.Status.{Status}
 use Rattle.np_top.specs.declared.status.Status.TheVariants.{Holds, Fails}
-use Rattle.np_top.specs.Goals.{AreVerdicts}
-
--- the line of a text, with the byte that ends it
-abbrev pub line : List ℕ → List ℕ
-line bytes = bytes ++ 10 ∷ []
 
 -- what is written where the words fit no command
 abbrev pub usage_text : List ℕ
-usage_text = line (codes "usage")
+usage_text = codes "usage" ++ 10 ∷ []
 
--- what is written for a file that has too many bytes
-abbrev pub too_long_text : List ℕ → List ℕ
-too_long_text file = line (codes "refused " ++ file ++ codes " too-long")
-
--- what is written for a file whose line of this number is the first that is refused, for this reason
-abbrev pub refused_text : List ℕ → ℕ → List ℕ → List ℕ
-refused_text file number why = line (codes "refused " ++ file ++ codes " line " ++ decimal number ++ codes " " ++ why)
-
--- the same where the line has none of the forms that are read so far
-abbrev pub not_built_text : List ℕ → ℕ → List ℕ
-not_built_text file number = refused_text file number (codes "NotBuilt")
-
--- a goal's line; goals count from 1
-abbrev pub goal_text : ℕ → Bool → List ℕ
-goal_text number holds = line (codes "goal " ++ decimal number ++ (if holds then codes " holds" else codes " violated"))
-
--- the lines of the goals, of which the first has this number
-abbrev pub goals_text : ℕ → List Bool → List ℕ
-goals_text number [] = []
-goals_text number (verdict ∷ verdicts) = goal_text number verdict ++ goals_text (number + 1) verdicts
-
--- all goals hold
-abbrev pub all_hold : List Bool → Bool
-all_hold verdicts = list_all (λ verdict. verdict) verdicts
-
--- the last line
-abbrev pub summary_text : List Bool → List ℕ
-summary_text verdicts = line (if all_hold verdicts then codes "holds" else codes "fails")
-
--- the whole report on the goals
-abbrev pub verdicts_text : List Bool → List ℕ
-verdicts_text verdicts = goals_text 1 verdicts ++ summary_text verdicts
-
--- the status that goes with the verdicts
-abbrev pub verdicts_status : List Bool → Status
+-- the status that goes with verdicts
+abbrev pub verdicts_status : List Verdict → Status
 verdicts_status verdicts = if all_hold verdicts then Holds else Fails
 
--- the report on a network and its configurations
-pub record IsReport (net : Network) (configs : List Config) (text : List ℕ) (status : Status) : Type 0 where
-  pub verdicts : List Bool
-  pub right : AreVerdicts net configs verdicts
-  pub text_is : text ≡ verdicts_text verdicts
+-- The report on the goals: the right verdict on each of them, by what crosses the slots, and whether all hold.
+pub record IsCheckReport (net : Plan) (configs : List Config) (text : List ℕ) (status : Status) : Type 0 where
+  pub verdicts : List Verdict
+  pub count : length verdicts ≡ length net.goals
+  pub right : (k : ℕ) (d : Goal) → k < length net.goals → IsVerdict net.interfaces (slot_lets net.interfaces configs) (goal_at net.goals d k) (slice_index_or verdicts k verdict.Holds)
+  pub text_is : text ≡ verdicts_text net verdicts
   pub status_is : status ≡ verdicts_status verdicts
+
+-- the tests of a network's filter cuts: its lists in their order, and then its goals
+abbrev pub cuts_of : Plan → List Config → List (Header → Bool)
+cuts_of net configs = filter_tests (applied_of net.interfaces configs).lists net.goals
+
+-- the report on the atoms of the filter cuts
+pub record IsAtomsReport (net : Plan) (configs : List Config) (text : List ℕ) (status : Status) : Type 0 where
+  pub leasts : List Header
+  pub least : AreLeasts (cuts_of net configs) leasts
+  pub text_is : text ≡ atoms_text net (applied_of net.interfaces configs).names (cut_sets (cuts_of net configs) leasts) leasts
+  pub status_is : status ≡ Holds

@@ -1,21 +1,36 @@
 //! The answers to the commands.
 
-ghost use Rattle.std.specs.Prelude.{◌≡◌, ◌≢◌, ◌≤◌, Some, IfOk, IsErrOf, IsSome};
+ghost use Rattle.std.specs.Prelude.{◌≡◌, ◌≢◌, ◌<◌, ℕ, Some, IfOk, IsErrOf, length, slice_index_or};
 ghost use Rattle.np_outside.specs.Counts.{Rose};
 ghost use Rattle.np_outside.specs.Files.{Files};
+ghost use Rattle.np_region.specs.Keeping.{KeepsRegions};
+ghost use Rattle.np_net.specs.declared.filtering.Goal.{Goal};
+ghost use Rattle.np_atomizer.specs.Atoms.{AreAtoms, atoms_in, sets_in};
+ghost use Rattle.np_cut.specs.Applying.{slot_lets};
+ghost use Rattle.np_cut.specs.FilterCuts.{filter_tests};
+ghost use Rattle.np_goals.specs.Cases.{goal_at};
+ghost use Rattle.np_goals.specs.Verdicts.{IsVerdict};
+ghost use Rattle.np_goals.specs.declared.verdicts.Verdict.TheVariants as verdict;
 ghost use Rattle.np_top.specs.declared.answers.Fault.TheVariants as faults;
 ghost use Rattle.np_top.specs.Commands.{command_in};
-ghost use Rattle.np_top.specs.Outcome.{inputs_of, IsAnswer, IsAnswerTo, IsReportOn, HasFiles};
-ghost use Rattle.np_top.specs.Show.{shown_of, IsCanonical};
+ghost use Rattle.np_top.specs.Keeping.{KeepsShelf};
+ghost use Rattle.np_top.specs.Loading.{inputs_in, Replies};
+ghost use Rattle.np_top.specs.Outcome.{IsAnswerTo, IsAtomsReportOn, IsCheckReportOn, HasFiles};
+ghost use Rattle.np_top.specs.Show.{IsCanonical};
 ghost use Rattle.np_top.specs.Status.{IsSettled};
 
 use crate::commands::Command;
-use crate::judge::judge;
-use crate::load::{Halt, load};
-use crate::report::{Answer, report};
-use crate::show::{canonical, load_net};
+use crate::load::{Halt, Inputs, load_inputs, load_net};
+use crate::report::{Answer, atoms_report, canonical, verdicts_report};
 use crate::status::Status;
+use np_acl_read::Config;
+use np_atomizer::{Atoms, atomize};
+use np_cut::{Applied, apply, filter_cuts};
+use np_goals::{Verdict, case_of, judge};
+use np_net::Network;
 use np_outside::Shelf;
+use np_region::Regions;
+use sqlite_items::Items;
 use std::alloc::{AllocError, Global};
 
 /// Why nothing is written.
@@ -28,69 +43,107 @@ pub enum Fault {
     Memory,
 }
 
-impl From<AllocError> for Fault {
-    ghost from_gives = { λ _ e. e ≡ faults.Memory };
-
-    fn from(_e: AllocError) -> Fault {
-        Fault::Memory
-    }
+/// The atoms of a network's filter cuts.
+fn filter_atoms<G: Regions>(
+    alloc: Global,
+    store: &mut G,
+    net: &Network,
+    applied: &Applied,
+) -> Result<Atoms<G::R>, AllocError>
+    ensures kept { KeepsRegions G.fits G.has_header store.old store.new }
+    ensures atoms { IfOk result (λ atoms. AreAtoms G.fits G.has_header store.new (filter_tests applied.now.lists net.now.goals) (atoms_in atoms) (sets_in atoms)) }
+{
+    let cuts = filter_cuts(alloc, store, net, applied)?;
+    atomize(alloc, store, cuts.as_slice())
 }
 
-/// The answer to `check`: the report, or the line that refuses a file.
-fn check<S: Shelf>(alloc: Global, shelf: &mut S, file: &[u8]) -> Result<Answer, Fault>
-    ensures ok { IfOk result (λ answer. (files : Files) → S.files shelf.old ≡ Some files →
-        IsAnswer IsReportOn (inputs_of files file.now) answer.text answer.status) }
+/// The verdict on each goal of a network, by the configurations of its devices.
+fn verdicts<G: Regions>(
+    alloc: Global,
+    store: &mut G,
+    net: &Network,
+    configs: Vec<Config>,
+) -> Result<Items<Verdict>, AllocError>
+    ensures kept { KeepsRegions G.fits G.has_header store.old store.new }
+    ensures count { IfOk result (λ v. length v ≡ length net.now.goals) }
+    ensures right { IfOk result (λ v. (k : ℕ) (d : Goal) → k < length net.now.goals → IsVerdict net.now.interfaces (slot_lets net.now.interfaces configs.items) (goal_at net.now.goals d k) (slice_index_or v k verdict.Holds)) }
+{
+    let applied = apply(alloc, net, configs)?;
+    let atoms = filter_atoms(alloc, store, net, &applied)?;
+    let case = case_of(alloc, store, net, &applied, &atoms)?;
+    judge(alloc, net, &case)
+}
+
+/// The answer to `check`: the report on the goals.
+fn check<G: Regions>(alloc: Global, store: &mut G, inputs: Inputs) -> Result<Answer, AllocError>
+    ensures report { IfOk result (λ answer. IsCheckReportOn (inputs_in inputs) answer.text answer.status) }
+    ensures settled { IfOk result (λ answer. IsSettled answer.status × (answer.status ≢ Status.Usage)) }
+    ensures kept { KeepsRegions G.fits G.has_header store.old store.new }
+{
+    let Inputs { net, configs } = inputs;
+    let verdicts = verdicts(alloc, store, &net, configs)?;
+    verdicts_report(alloc, &net, verdicts.as_slice())
+}
+
+/// The answer to `atoms`: the report on the atoms.
+fn atoms<G: Regions>(alloc: Global, store: &mut G, inputs: Inputs) -> Result<Answer, AllocError>
+    ensures report { IfOk result (λ answer. IsAtomsReportOn (inputs_in inputs) answer.text answer.status) }
+    ensures settled { IfOk result (λ answer. IsSettled answer.status × (answer.status ≢ Status.Usage)) }
+    ensures kept { KeepsRegions G.fits G.has_header store.old store.new }
+{
+    let Inputs { net, configs } = inputs;
+    let applied = apply(alloc, &net, configs)?;
+    let atoms = filter_atoms(alloc, store, &net, &applied)?;
+    atoms_report(alloc, &net, &applied, &atoms)
+}
+
+/// The answer to `show`: the network's canonical text.
+fn show(alloc: Global, net: Network) -> Result<Answer, AllocError>
+    ensures report { IfOk result (λ answer. IsCanonical net answer.text answer.status) }
+    ensures settled { IfOk result (λ answer. IsSettled answer.status × (answer.status ≢ Status.Usage)) }
+{
+    canonical(alloc, &net)
+}
+
+/// The answer to a command over files that are not refused.
+fn answer<G: Regions, S: Shelf>(
+    alloc: Global,
+    store: &mut G,
+    shelf: &mut S,
+    command: Command,
+) -> Result<Answer, Halt>
+    ensures says { (files : Files) → S.files shelf.old ≡ Some files → Replies result (IsAnswerTo files (command_in command.entry)) }
     ensures settled { IfOk result (λ answer. IsSettled answer.status × (answer.status ≢ Status.Usage)) }
 
-    ensures failed { IsErrOf result Fault.Read → Rose (S.faults shelf.old) (S.faults shelf.new) }
-    ensures broken { IsErrOf result Fault.Read → (files : Files) → S.files shelf.old ≡ Some files →
-        IsSome (inputs_of files file.now) → Rose (S.breaks shelf.old) (S.breaks shelf.new) }
-    ensures files { S.files shelf.new ≡ S.files shelf.old }
-    ensures cap { S.cap shelf.new ≡ S.cap shelf.old }
-    ensures grows { S.faults shelf.old ≤ S.faults shelf.new }
-    ensures breaks_grow { S.breaks shelf.old ≤ S.breaks shelf.new }
+    ensures failed { IsErrOf result Halt.ReadFault → Rose (S.faults shelf.old) (S.faults shelf.new) }
+    ensures broken { IsErrOf result Halt.ReadFault → (files : Files) → S.files shelf.old ≡ Some files →
+        HasFiles files (command_in command.entry) → Rose (S.breaks shelf.old) (S.breaks shelf.new) }
+    ensures shelf { KeepsShelf S.files S.cap S.faults S.breaks shelf.old shelf.new }
+    ensures store { KeepsRegions G.fits G.has_header store.old store.new }
 {
-    match load(alloc, shelf, file) {
-        Ok(inputs) => {
-            let verdicts = judge(alloc, &inputs.net, inputs.configs.as_slice())?;
-            Ok(report(alloc, verdicts.as_slice())?)
+    match command {
+        Command::Check(file) => {
+            let inputs = load_inputs(alloc, shelf, file)?;
+            Ok(check(alloc, store, inputs)?)
         }
-        Err(Halt::Refused(text)) => Ok(Answer {
-            text,
-            status: Status::Refused,
-        }),
-        Err(Halt::ReadFault) => Err(Fault::Read),
-        Err(Halt::Memory) => Err(Fault::Memory),
+        Command::Atoms(file) => {
+            let inputs = load_inputs(alloc, shelf, file)?;
+            Ok(atoms(alloc, store, inputs)?)
+        }
+        Command::Show(file) => {
+            let net = load_net(alloc, shelf, file)?;
+            Ok(show(alloc, net)?)
+        }
     }
 }
 
-/// The answer to `show`: the network's canonical text, or the line that refuses its file.
-fn show<S: Shelf>(alloc: Global, shelf: &mut S, file: &[u8]) -> Result<Answer, Fault>
-    ensures ok { IfOk result (λ answer. (files : Files) → S.files shelf.old ≡ Some files →
-        IsAnswer IsCanonical (shown_of files file.now) answer.text answer.status) }
-    ensures settled { IfOk result (λ answer. IsSettled answer.status × (answer.status ≢ Status.Usage)) }
-
-    ensures failed { IsErrOf result Fault.Read → Rose (S.faults shelf.old) (S.faults shelf.new) }
-    ensures broken { IsErrOf result Fault.Read → (files : Files) → S.files shelf.old ≡ Some files →
-        IsSome (shown_of files file.now) → Rose (S.breaks shelf.old) (S.breaks shelf.new) }
-    ensures files { S.files shelf.new ≡ S.files shelf.old }
-    ensures cap { S.cap shelf.new ≡ S.cap shelf.old }
-    ensures grows { S.faults shelf.old ≤ S.faults shelf.new }
-    ensures breaks_grow { S.breaks shelf.old ≤ S.breaks shelf.new }
-{
-    match load_net(alloc, shelf, file) {
-        Ok(net) => Ok(canonical(alloc, &net)?),
-        Err(Halt::Refused(text)) => Ok(Answer {
-            text,
-            status: Status::Refused,
-        }),
-        Err(Halt::ReadFault) => Err(Fault::Read),
-        Err(Halt::Memory) => Err(Fault::Memory),
-    }
-}
-
-/// The answer to a command.
-pub fn answer<S: Shelf>(alloc: Global, shelf: &mut S, command: Command) -> Result<Answer, Fault>
+/// What is written for a command: its answer, or the line that refuses a file.
+pub fn respond<G: Regions, S: Shelf>(
+    alloc: Global,
+    store: &mut G,
+    shelf: &mut S,
+    command: Command,
+) -> Result<Answer, Fault>
     ensures ok { IfOk result (λ answer. (files : Files) → S.files shelf.old ≡ Some files →
         IsAnswerTo files (command_in command.entry) answer.text answer.status) }
     ensures settled { IfOk result (λ answer. IsSettled answer.status × (answer.status ≢ Status.Usage)) }
@@ -98,13 +151,16 @@ pub fn answer<S: Shelf>(alloc: Global, shelf: &mut S, command: Command) -> Resul
     ensures failed { IsErrOf result Fault.Read → Rose (S.faults shelf.old) (S.faults shelf.new) }
     ensures broken { IsErrOf result Fault.Read → (files : Files) → S.files shelf.old ≡ Some files →
         HasFiles files (command_in command.entry) → Rose (S.breaks shelf.old) (S.breaks shelf.new) }
-    ensures files { S.files shelf.new ≡ S.files shelf.old }
-    ensures cap { S.cap shelf.new ≡ S.cap shelf.old }
-    ensures grows { S.faults shelf.old ≤ S.faults shelf.new }
-    ensures breaks_grow { S.breaks shelf.old ≤ S.breaks shelf.new }
+    ensures shelf { KeepsShelf S.files S.cap S.faults S.breaks shelf.old shelf.new }
+    ensures store { KeepsRegions G.fits G.has_header store.old store.new }
 {
-    match command {
-        Command::Check(file) => check(alloc, shelf, file),
-        Command::Show(file) => show(alloc, shelf, file),
+    match answer(alloc, store, shelf, command) {
+        Ok(answer) => Ok(answer),
+        Err(Halt::Refused(text)) => Ok(Answer {
+            text,
+            status: Status::Refused,
+        }),
+        Err(Halt::ReadFault) => Err(Fault::Read),
+        Err(Halt::Memory) => Err(Fault::Memory),
     }
 }

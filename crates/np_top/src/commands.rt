@@ -11,6 +11,9 @@ pub enum Command<'a> {
     /// `check NET`
     Check(&'a [u8]),
 
+    /// `atoms NET`
+    Atoms(&'a [u8]),
+
     /// `show NET`
     Show(&'a [u8]),
 }
@@ -21,6 +24,7 @@ pub fn parse(words: &[String]) -> Option<Command<'_>>
 {
     match words {
         [word, file] if word.as_str() == "check" => Some(Command::Check(file.as_bytes())),
+        [word, file] if word.as_str() == "atoms" => Some(Command::Atoms(file.as_bytes())),
         [word, file] if word.as_str() == "show" => Some(Command::Show(file.as_bytes())),
         _ => None,
     }

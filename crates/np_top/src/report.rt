@@ -1,10 +1,21 @@
-//! The texts that are written.
+//! The commands' texts, each with the status that goes with it.
 
-ghost use Rattle.std.specs.Prelude.{◌≡◌, ◌++◌, ◌+◌, ◌<◌, ◌^◌, length, IfOk, OnOk};
-ghost use Rattle.np_top.specs.Report as written;
+ghost use Rattle.std.specs.Prelude.{◌≡◌, ◌<◌, [], ℕ, length, slice_index_or, IfOk};
+ghost use Rattle.std.specs.List.{All};
+ghost use Rattle.np_atomizer.specs.Atoms.{atoms_in, leasts_of, sets_in};
+ghost use Rattle.np_net_read.specs.Canonical.{net_text};
+ghost use Rattle.np_report.specs.Atoms.{atoms_text};
+ghost use Rattle.np_report.specs.Verdicts.{HasInterfaces, is_holding, verdicts_text};
+ghost use Rattle.np_report.specs.Verdicts as verdict_texts;
+ghost use Rattle.np_top.specs.Report.{verdicts_status};
 
 use crate::status::Status;
-use np_text::put_number;
+use np_atomizer::Atoms;
+use np_cut::Applied;
+use np_goals::Verdict;
+use np_net::Network;
+use np_net_read::put_net;
+use np_report::{put_atoms, put_verdicts};
 use sqlite_items::Items;
 use std::alloc::{AllocError, Global};
 
@@ -15,84 +26,73 @@ pub struct Answer {
     pub status: Status,
 }
 
-/// The refusal of a file that has too many bytes.
-pub fn too_long(alloc: Global, file: &[u8]) -> Result<Items<u8>, AllocError>
-    ensures { IfOk result (λ text. text ≡ written.too_long_text file.now) }
+/// The canonical text of a network.
+pub fn canonical(alloc: Global, net: &Network) -> Result<Answer, AllocError>
+    ensures text { IfOk result (λ answer. answer.text ≡ net_text net.now) }
+    ensures status { IfOk result (λ answer. answer.status ≡ Status.Holds) }
 {
     let mut text = Vec::new(alloc);
-    text.extend_from_slice(b"refused ")?;
-    text.extend_from_slice(file)?;
-    text.extend_from_slice(b" too-long\n")?;
-    Ok(Items::from_vec(text))
+    put_net(alloc, net, &mut text)?;
+    Ok(Answer {
+        text: Items::from_vec(text),
+        status: Status::Holds,
+    })
 }
 
-/// The refusal of a file for its line of this number.
-pub fn refused(alloc: Global, file: &[u8], line: u64, why: &[u8]) -> Result<Items<u8>, AllocError>
-    ensures { IfOk result (λ text. text ≡ written.refused_text file.now line why.now) }
+/// The report on atoms.
+pub fn atoms_report<R: Drop>(
+    alloc: Global,
+    net: &Network,
+    applied: &Applied,
+    atoms: &Atoms<R>,
+) -> Result<Answer, AllocError>
+    requires devices { All (λ name. name.0 < length net.now.devices) applied.now.names }
+    requires sets { (k : ℕ) → k < length (sets_in atoms.now) → length (slice_index_or (sets_in atoms.now) k []) ≡ length (atoms_in atoms.now) }
+    ensures text { IfOk result (λ answer. answer.text ≡ atoms_text net.now applied.now.names (sets_in atoms.now) (leasts_of (atoms_in atoms.now))) }
+    ensures status { IfOk result (λ answer. answer.status ≡ Status.Holds) }
 {
     let mut text = Vec::new(alloc);
-    text.extend_from_slice(b"refused ")?;
-    text.extend_from_slice(file)?;
-    text.extend_from_slice(b" line ")?;
-    put_number(&mut text, line)?;
-    text.extend_from_slice(b" ")?;
-    text.extend_from_slice(why)?;
-    text.extend_from_slice(b"\n")?;
-    Ok(Items::from_vec(text))
+    put_atoms(alloc, &mut text, net, applied, atoms)?;
+    Ok(Answer {
+        text: Items::from_vec(text),
+        status: Status::Holds,
+    })
 }
 
-/// Appends a goal's line.
-fn put_goal(text: &mut Vec<u8>, number: u64, holds: bool) -> Result<(), AllocError>
-    ensures { OnOk result (text.new.items ≡ text.old.items ++ written.goal_text number holds) }
+/// Whether a verdict is that the goal holds.
+fn holds(verdict: &Verdict) -> bool
+    ensures { result ≡ is_holding verdict.now }
 {
-    text.extend_from_slice(b"goal ")?;
-    put_number(text, number)?;
-    if holds {
-        text.extend_from_slice(b" holds\n")?;
-    } else {
-        text.extend_from_slice(b" violated\n")?;
+    match verdict {
+        Verdict::Holds => true,
+        Verdict::Violated { .. } => false,
     }
-    Ok(())
-}
-
-/// Appends the lines of the goals.
-fn put_goals(text: &mut Vec<u8>, verdicts: &[bool]) -> Result<(), AllocError>
-    ensures { OnOk result (text.new.items ≡ text.old.items ++ written.goals_text 1 verdicts.now) }
-{
-    let mut number = 1;
-    for holds in verdicts {
-        put_goal(text, number, *holds)?;
-        number += 1;
-    }
-    Ok(())
 }
 
 /// Whether all goals hold.
-fn all_hold(verdicts: &[bool]) -> bool
-    ensures { result ≡ written.all_hold verdicts.now }
+fn all_hold(verdicts: &[Verdict]) -> bool
+    ensures { result ≡ verdict_texts.all_hold verdicts.now }
 {
-    verdicts.iter().all(|holds| *holds)
+    verdicts.iter().all(|verdict| holds(verdict))
 }
 
-/// The report on these verdicts.
-pub fn report(alloc: Global, verdicts: &[bool]) -> Result<Answer, AllocError>
-    ensures text { IfOk result (λ answer. answer.text ≡ written.verdicts_text verdicts.now) }
-    ensures status { IfOk result (λ answer. answer.status ≡ written.verdicts_status verdicts.now) }
+/// The report on verdicts.
+pub fn verdicts_report(
+    alloc: Global,
+    net: &Network,
+    verdicts: &[Verdict],
+) -> Result<Answer, AllocError>
+    requires { All (HasInterfaces net.now.interfaces) verdicts.now }
+    ensures text { IfOk result (λ answer. answer.text ≡ verdicts_text net.now verdicts.now) }
+    ensures status { IfOk result (λ answer. answer.status ≡ verdicts_status verdicts.now) }
 {
     let mut text = Vec::new(alloc);
-    put_goals(&mut text, verdicts)?;
-    if all_hold(verdicts) {
-        text.extend_from_slice(b"holds\n")?;
-        let text = Items::from_vec(text);
-        return Ok(Answer {
-            text,
-            status: Status::Holds,
-        });
-    }
-    text.extend_from_slice(b"fails\n")?;
+    put_verdicts(alloc, &mut text, net, verdicts)?;
     let text = Items::from_vec(text);
-    Ok(Answer {
-        text,
-        status: Status::Fails,
-    })
+    let status = if all_hold(verdicts) {
+        Status::Holds
+    } else {
+        Status::Fails
+    };
+    Ok(Answer { text, status })
 }

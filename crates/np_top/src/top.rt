@@ -1,18 +1,22 @@
 //! A whole run, from its words to the bytes that it writes.
 
-ghost use Rattle.std.specs.Prelude.{◌≡◌, ◌≤◌, ◌⊎◌, ℕ, List, Some, IsSome, IsNone};
+ghost use Rattle.std.specs.Prelude.{◌≡◌, ◌≢◌, ◌≤◌, ◌⊎◌, ℕ, List, Some, IsSome, IsNone};
 ghost use Rattle.np_outside.specs.Counts.{Rose};
 ghost use Rattle.np_outside.specs.Files.{Files};
-ghost use Rattle.np_top.specs.Commands.{command_of};
-ghost use Rattle.np_top.specs.Outcome.{texts_of, IsOutcome, IsDefined};
+ghost use Rattle.np_region.specs.Keeping.{KeepsRegions};
+ghost use Rattle.np_top.specs.Commands.{command_in, command_of};
+ghost use Rattle.np_top.specs.Outcome.{texts_of, HasFiles, IsAnswerTo, IsOutcome, IsDefined};
+ghost use Rattle.np_top.specs.Keeping.{KeepsShelf};
 ghost use Rattle.np_top.specs.Report.{usage_text};
 ghost use Rattle.np_top.specs.Status.{IsSettled, IsUnlessFault};
 ghost use Rattle.np_top.specs.Written.{Took, TookPrefix};
 
-use crate::answers::{Fault, answer};
-use crate::commands::parse;
+use crate::answers::{Fault, respond};
+use crate::commands::{Command, parse};
 use crate::status::Status;
+use np_bdd::Diagrams;
 use np_outside::{Shelf, Sink, write_all};
+use np_region::Regions;
 use std::alloc::Global;
 use std::thread::Threads;
 
@@ -30,10 +34,111 @@ fn write<K: Sink>(sink: &mut K, text: &[u8], status: Status) -> Status
     }
 }
 
+/// Runs a command over the files of the shelf, and writes its text to the sink.
+fn run_command<G: Regions, S: Shelf, K: Sink>(
+    alloc: Global,
+    store: &mut G,
+    command: Command,
+    shelf: &mut S,
+    sink: &mut K,
+) -> Status
+    ensures outcome { IsSettled result → (files : Files) → S.files shelf.old ≡ Some files →
+        (text : List ℕ) × IsAnswerTo files (command_in command.entry) text result × Took (K.taken sink.old) (K.taken sink.new) text }
+    ensures only { (files : Files) (text : List ℕ) (status : Status) → S.files shelf.old ≡ Some files →
+        IsAnswerTo files (command_in command.entry) text status → IsUnlessFault status result }
+    ensures usage { result ≢ Status.Usage }
+
+    ensures read_fault { result ≡ Status.ReadFault → Rose (S.faults shelf.old) (S.faults shelf.new) × (K.taken sink.new ≡ K.taken sink.old) }
+    ensures read_break { result ≡ Status.ReadFault → (files : Files) → S.files shelf.old ≡ Some files →
+        HasFiles files (command_in command.entry) → Rose (S.breaks shelf.old) (S.breaks shelf.new) }
+
+    ensures write_fault { result ≡ Status.WriteFault → Rose (K.faults sink.old) (K.faults sink.new) }
+    ensures write_prefix { result ≡ Status.WriteFault → (files : Files) → S.files shelf.old ≡ Some files →
+        (text : List ℕ) × (status : Status) × IsAnswerTo files (command_in command.entry) text status × TookPrefix (K.taken sink.old) (K.taken sink.new) text }
+
+    ensures memory { result ≡ Status.Memory → K.taken sink.new ≡ K.taken sink.old }
+    ensures faultless { (Rose (S.faults shelf.old) (S.faults shelf.new) → ⊥) → (Rose (K.faults sink.old) (K.faults sink.new) → ⊥) →
+        IsSettled result ⊎ (result ≡ Status.Memory) }
+
+    ensures shelf { KeepsShelf S.files S.cap S.faults S.breaks shelf.old shelf.new }
+    ensures faults_cap { K.cap sink.new ≡ K.cap sink.old }
+    ensures room { K.room sink.new ≡ K.room sink.old }
+    ensures faults_grow { K.faults sink.old ≤ K.faults sink.new }
+    ensures store { KeepsRegions G.fits G.has_header store.old store.new }
+{
+    match respond(alloc, store, shelf, command) {
+        Ok(answer) => write(sink, answer.text.as_slice(), answer.status),
+        Err(Fault::Read) => Status::ReadFault,
+        Err(Fault::Memory) => Status::Memory,
+    }
+}
+
+/// Runs the command that the words name, without the program's name, over the files of the shelf, with this store of
+/// regions, and writes its text to the sink. The regions of the store stay as they are.
+///
+/// The commands are those of [`run`], which makes a store of its own.
+pub fn run_in<R: Threads + Sync, G: Regions, S: Shelf, K: Sink>(
+    rt: &R,
+    alloc: Global,
+    store: &mut G,
+    words: &[String],
+    shelf: &mut S,
+    sink: &mut K,
+) -> Status
+    // With status 0 to 3 the text written and the status are the outcome of the words and the files.
+    ensures outcome { IsSettled result → (files : Files) → S.files shelf.old ≡ Some files →
+        (text : List ℕ) × IsOutcome (texts_of words.now) files text result × Took (K.taken sink.old) (K.taken sink.new) text }
+    // Where they have an outcome, no other status comes than its own, unless a device or memory fails.
+    ensures only { (files : Files) (text : List ℕ) (status : Status) → S.files shelf.old ≡ Some files →
+        IsOutcome (texts_of words.now) files text status → IsUnlessFault status result }
+
+    // `Usage` comes exactly where the words fit no command, unless the write fails.
+    ensures usage { result ≡ Status.Usage → IsNone (command_of (texts_of words.now)) × Took (K.taken sink.old) (K.taken sink.new) usage_text }
+    ensures usage_only { IsNone (command_of (texts_of words.now)) →
+        (result ≡ Status.Usage) ⊎ (result ≡ Status.WriteFault) × TookPrefix (K.taken sink.old) (K.taken sink.new) usage_text }
+
+    // A fault of reading comes only where the shelf's faults rose, for a command, and nothing was written. Where the
+    // needed files are there, it comes only where the shelf's breaks rose too.
+    ensures read_fault { result ≡ Status.ReadFault → Rose (S.faults shelf.old) (S.faults shelf.new)
+        × IsSome (command_of (texts_of words.now)) × (K.taken sink.new ≡ K.taken sink.old) }
+    ensures read_break { result ≡ Status.ReadFault → (files : Files) → S.files shelf.old ≡ Some files →
+        IsDefined (texts_of words.now) files → Rose (S.breaks shelf.old) (S.breaks shelf.new) }
+
+    // A fault of writing comes only where the sink's faults rose, and a proper prefix of the outcome's text was written.
+    ensures write_fault { result ≡ Status.WriteFault → Rose (K.faults sink.old) (K.faults sink.new) }
+    ensures write_prefix { result ≡ Status.WriteFault → (files : Files) → S.files shelf.old ≡ Some files →
+        (text : List ℕ) × (status : Status) × IsOutcome (texts_of words.now) files text status × TookPrefix (K.taken sink.old) (K.taken sink.new) text }
+
+    // Want of memory comes only for a command, and nothing was written.
+    ensures memory { result ≡ Status.Memory → IsSome (command_of (texts_of words.now)) × (K.taken sink.new ≡ K.taken sink.old) }
+
+    // Without a fault of a device the status is 0 to 3, or memory failed.
+    ensures faultless { (Rose (S.faults shelf.old) (S.faults shelf.new) → ⊥) → (Rose (K.faults sink.old) (K.faults sink.new) → ⊥) →
+        IsSettled result ⊎ (result ≡ Status.Memory) }
+
+    // What the shelf and the sink tell stays, and their counts do not fall.
+    ensures files { S.files shelf.new ≡ S.files shelf.old }
+    ensures breaks_cap { S.cap shelf.new ≡ S.cap shelf.old }
+    ensures grows { S.faults shelf.old ≤ S.faults shelf.new }
+    ensures breaks_grow { S.breaks shelf.old ≤ S.breaks shelf.new }
+    ensures faults_cap { K.cap sink.new ≡ K.cap sink.old }
+    ensures room { K.room sink.new ≡ K.room sink.old }
+    ensures faults_grow { K.faults sink.old ≤ K.faults sink.new }
+
+    ensures store { KeepsRegions G.fits G.has_header store.old store.new }
+{
+    let _ = rt;
+    let Some(command) = parse(words) else {
+        return write(sink, b"usage\n", Status::Usage);
+    };
+    run_command(alloc, store, command, shelf, sink)
+}
+
 /// Runs the command that the words name, without the program's name, over the files of the shelf, and writes its text
 /// to the sink.
 ///
 /// `check NET` reads the file NET and then the configuration of each of its devices, and writes a verdict on each goal.
+/// `atoms NET` reads the same files, and writes the atoms of the network's filter cuts, with what each cut says of each.
 /// `show NET` reads the file NET, and writes the canonical text of the network that it declares.
 pub fn run<R: Threads + Sync, S: Shelf, K: Sink>(
     rt: &R,
@@ -86,9 +191,8 @@ pub fn run<R: Threads + Sync, S: Shelf, K: Sink>(
     let Some(command) = parse(words) else {
         return write(sink, b"usage\n", Status::Usage);
     };
-    match answer(alloc, shelf, command) {
-        Ok(answer) => write(sink, answer.text.as_slice(), answer.status),
-        Err(Fault::Read) => Status::ReadFault,
-        Err(Fault::Memory) => Status::Memory,
+    match Diagrams::new(alloc) {
+        Ok(mut store) => run_command(alloc, &mut store, command, shelf, sink),
+        Err(_) => Status::Memory,
     }
 }

@@ -1,10 +1,10 @@
 use Rattle.std.proofs.lemmas.Result.{err_from_is_err_and}
-use Rattle.np_top.specs.NetText.{net_of}
-use Rattle.np_top.specs.Report.{not_built_text}
+use Rattle.np_net_read.specs.Reading.{net_of}
+use Rattle.np_report.specs.declared.refusals.Refusal.TheVariants.{Net}
 use Rattle.np_top.proofs.Loads.{bytes_halt}
-use Rattle.np_top.proofs.load.load_network.Goals as goal
+use Rattle.np_top.proofs.load.load_net.Goals as goal
 
 pub returns-in_err-bytes-clause-says : goal.returns-in_err-bytes-clause-says
 returns-in_err-bytes-clause-says g c = λ files told.
     let p = err_from_is_err_and c.from_residual.result c.from_residual.ensures.1 in
-    rw (p.1, p.2) (bytes_halt not_built_text net_of files c.args.file.now _ (λ text is. c.in_err-bytes.ensures.refused text is files told))
+    rw (p.1, p.2) (bytes_halt Net net_of files c.args.file.now _ (λ text is. c.in_err-bytes.ensures.refused text is files told))

@@ -21,6 +21,10 @@ OPEN = 'area out 0.0.0.0/0\narea lan 10.0.0.0/8\ndevice r\ninterface r e0 out\ni
 SHUT = OPEN.replace('device r\n', 'device r config r.cfg\n')
 DENY = 'interface e0\n ip access-group 100 in\naccess-list 100 deny tcp any any\naccess-list 100 permit ip any any\n'
 
+# TCP, which the list denies and the goal forbids, and all else.
+ATOMS = ('cuts 2\ncut 1 list r 100\ncut 2 goal 1\natoms 2\n'
+         'atom 1 0.0.0.0 0.0.0.0 0 0 0 0 10\natom 2 0.0.0.0 0.0.0.0 6 0 0 0 01\n')
+
 # As many areas as there may be: more than two pieces of 4,096 bytes.
 AREAS = ''.join(f'area a{k} 10.{k}.0.0/16\n' for k in range(256))
 
@@ -32,13 +36,17 @@ LONG += '#' * (1048576 - len(AREAS) - len(LONG) - 1) + '\n' + AREAS
 # Files, words, the status, and the text that is written.
 RUNS = [
     ('all goals hold', {'net': SHUT, 'r.cfg': DENY}, ['check', 'net'], 0, 'goal 1 holds\nholds\n'),
-    ('a goal is violated', {'net': OPEN}, ['check', 'net'], 1, 'goal 1 violated\nfails\n'),
+    ('a goal is violated', {'net': OPEN}, ['check', 'net'], 1,
+     'goal 1 violated 0.0.0.0 0.0.0.0 6 0 0 0\nhop r e0 e1\nfails\n'),
+    ('a line that is no list\'s', {'net': SHUT, 'r.cfg': DENY + 'hostname r\n'}, ['check', 'net'], 0, 'goal 1 holds\nholds\n'),
+    ('atoms of a list and a goal', {'net': SHUT, 'r.cfg': DENY}, ['atoms', 'net'], 0, ATOMS),
+    ('atoms of nothing', {'net': ''}, ['atoms', 'net'], 0, 'cuts 0\natoms 1\natom 1 0.0.0.0 0.0.0.0 0 0 0 0 -\n'),
     ('no words', {}, [], 2, 'usage\n'),
     ('a word too many', {'net': OPEN}, ['show', 'net', 'net'], 2, 'usage\n'),
     ('a command that there is none of', {'net': OPEN}, ['--help'], 2, 'usage\n'),
     ('a refused line of a network', {'net': OPEN + 'color red\n'}, ['show', 'net'], 3, 'refused net line 7 UnknownStatement\n'),
-    ('a refused line of a configuration', {'net': SHUT, 'r.cfg': DENY + 'hostname r\n'}, ['check', 'net'], 3,
-     'refused r.cfg line 5 NotBuilt\n'),
+    ('a refused line of a configuration', {'net': SHUT, 'r.cfg': DENY + 'no access-list 100\n'}, ['check', 'net'], 3,
+     'refused r.cfg line 5 Negated\n'),
     ('a file of 16 MiB and a byte', {'net': '#' * 16777217}, ['show', 'net'], 3, 'refused net too-long\n'),
     ('a file that is not there', {}, ['check', 'net'], 4, ''),
     ('a configuration that is not there', {'net': SHUT}, ['check', 'net'], 4, ''),

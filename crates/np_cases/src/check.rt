@@ -1,113 +1,315 @@
 //! `check NET`.
 
 use crate::given::shelf;
-use crate::runs::{expect, status};
+use crate::networks::{
+    AROUND, BRANCH, BRANCH_CONFIG, OPEN, RING, SHUT, SIDE_BY_SIDE, TCP_DENIED, crossed, filtered,
+    ladder, protocols,
+};
+use crate::runs::{expect, expect_between, expect_in, expect_report, status};
+use np_bdd::Diagrams;
 use np_outside::MemSink;
+use np_region::Regions;
+use std::alloc::{AllocError, Global};
+use std::process::Abort;
 use std::test::Fail;
+use std::thread::Threads;
 
-/// Two areas and a device between them without a configuration.
-const OPEN: &str = "area out 0.0.0.0/0
-area lan 10.0.0.0/8
-device r
-interface r e0 out
-interface r e1 lan
-goal out lan never tcp
-";
+/// Goals from the outer area of two to the inner one, and lines of the configuration between them, by which they hold.
+const HOLDING: [(&str, &str); 8] = [
+    ("never tcp", TCP_DENIED),
+    ("never any", "access-list 100 permit tcp any any gt 65535\n"),
+    ("never any", "access-list 100 permit tcp any any lt 0\n"),
+    (
+        "only established",
+        "access-list 100 permit tcp any any established\n",
+    ),
+    (
+        "never dscp 46",
+        "access-list 100 deny ip any any dscp ef\naccess-list 100 permit ip any any\n",
+    ),
+    (
+        "never tcp",
+        "ip access-list extended L\n 20 permit ip any any\n 10 deny tcp any any\ninterface e0\n ip access-group L in\n",
+    ),
+    (
+        "never tcp",
+        "interface e1\n ip access-group 101 out\naccess-list 101 deny tcp any any\naccess-list 101 permit ip any any\n",
+    ),
+    (
+        "never tcp",
+        " ip access-group 101 in\naccess-list 100 permit ip any any\naccess-list 101 deny ip any any\n",
+    ),
+];
 
-/// The same with a configuration for the device.
-const FILTERED: &str = "area out 0.0.0.0/0
-area lan 10.0.0.0/8
-device r config r.cfg
-interface r e0 out
-interface r e1 lan
-goal out lan never tcp
-";
+/// The same by which they are violated, with the least forbidden header.
+const VIOLATED: [(&str, &str, &str); 11] = [
+    ("never tcp", "", "0.0.0.0 0.0.0.0 6 0 0 0"),
+    (
+        "never and tcp dst 10.0.0.1",
+        "access-list 100 permit tcp any any\naccess-list 100 deny tcp any host 10.0.0.1\n",
+        "0.0.0.0 10.0.0.1 6 0 0 0",
+    ),
+    (
+        "never tcp",
+        "access-list 100 remark nothing here\n",
+        "0.0.0.0 0.0.0.0 6 0 0 0",
+    ),
+    (
+        "never and tcp src 10.1.200.0/24",
+        "access-list 100 permit tcp 10.1.0.7 0.0.255.0 any\n",
+        "10.1.200.7 0.0.0.0 6 0 0 0",
+    ),
+    (
+        "never any",
+        "access-list 100 permit tcp any any range 20 20\n",
+        "0.0.0.0 0.0.0.0 6 0 20 0",
+    ),
+    (
+        "never tcp",
+        "access-list 100 permit tcp any any eq 1 2 3 4 5 6 7 8 9 10\n",
+        "0.0.0.0 0.0.0.0 6 0 1 0",
+    ),
+    (
+        "never dscp 46",
+        "access-list 100 permit ip any any precedence critical\n",
+        "0.0.0.0 0.0.0.0 0 0 0 0 dscp=46",
+    ),
+    (
+        "never tcp",
+        "access-list 10 permit any\n",
+        "0.0.0.0 0.0.0.0 6 0 0 0",
+    ),
+    ("never tcp", "hostname r\n", "0.0.0.0 0.0.0.0 6 0 0 0"),
+    (
+        "never tcp",
+        " ip access-group 101 out\naccess-list 101 deny ip any any\n",
+        "0.0.0.0 0.0.0.0 6 0 0 0",
+    ),
+    (
+        "never tcp",
+        " ip access-group 101 in\naccess-list 100 deny ip any any\n",
+        "0.0.0.0 0.0.0.0 6 0 0 0",
+    ),
+];
 
-/// Without the word `never` before its predicate.
-const ONLY: &str = "area out 0.0.0.0/0
-area lan 10.0.0.0/8
-device r
-interface r e0 out
-interface r e1 lan
-goal out lan only tcp
-";
-
-/// A shut device, and a way of three devices around it.
-const AROUND: &str = "area a 10.1.0.0/16
-area m 10.2.0.0/16
-area s 10.3.0.0/16
-area b 10.4.0.0/16
-device d1
-device d2
-device d3
-device d4 config d4.cfg
-interface d1 e0 a
-interface d1 e1 m
-interface d2 e0 m
-interface d2 e1 s
-interface d3 e0 s
-interface d3 e1 b
-interface d4 e0 m
-interface d4 e1 b
-goal a b never udp
-";
-
-/// What applies list 100 to what comes in at `e0`.
-const APPLIED: &str = "interface e0
+/// A configuration by which nothing comes in at `e0` or `e1`.
+const SHUT_TWICE: &str = "interface e0
  ip access-group 100 in
-";
-
-const TCP_DENIED: &str = "interface e0
- ip access-group 100 in
-access-list 100 deny tcp any any
-access-list 100 permit ip any any
-";
-
-const ALL_DENIED: &str = "interface e0
+interface e1
  ip access-group 100 in
 access-list 100 deny ip any any
 ";
 
-const STANDARD: &str = "interface e0
- ip access-group 100 in
-access-list 10 permit any
-";
-
-const HOSTNAME: &str = "interface e0
- ip access-group 100 in
-hostname r
-";
-
-const HOLDS: &str = "goal 1 holds
-holds
-";
-
-const VIOLATED: &str = "goal 1 violated
-fails
-";
+/// Networks, a configuration and its file, and the report.
+const REPORTS: [(&str, &str, &str, &str, u8); 11] = [
+    (
+        OPEN,
+        "r.cfg",
+        "",
+        "goal 1 violated 0.0.0.0 0.0.0.0 6 0 0 0\nhop r e0 e1\nfails\n",
+        1,
+    ),
+    (
+        "area out 0.0.0.0/0\narea lan 10.0.0.0/8\ndevice r\ninterface r e0 out\ninterface r e1 lan\ngoal out lan only established\n",
+        "r.cfg",
+        "",
+        "goal 1 violated 0.0.0.0 0.0.0.0 0 0 0 0\nhop r e0 e1\nfails\n",
+        1,
+    ),
+    (
+        AROUND,
+        "d4.cfg",
+        SHUT,
+        "goal 1 violated 0.0.0.0 0.0.0.0 17 0 0 0\nhop d1 e0 e1\nhop d2 e0 e1\nhop d3 e0 e1\nfails\n",
+        1,
+    ),
+    (
+        AROUND,
+        "d4.cfg",
+        "",
+        "goal 1 violated 0.0.0.0 0.0.0.0 17 0 0 0\nhop d1 e0 e1\nhop d4 e0 e1\nfails\n",
+        1,
+    ),
+    (
+        SIDE_BY_SIDE,
+        "r.cfg",
+        "",
+        "goal 1 violated 0.0.0.0 0.0.0.0 6 0 0 0\nhop r2 e0 e1\nfails\n",
+        1,
+    ),
+    (
+        RING,
+        "r.cfg",
+        "",
+        "goal 1 violated 0.0.0.0 0.0.0.0 6 0 0 0\nhop r e0 e1\ngoal 2 violated 0.0.0.0 0.0.0.0 17 0 0 0\nhop r e1 e2\ngoal 3 holds\nfails\n",
+        1,
+    ),
+    (
+        BRANCH,
+        "br1.cfg",
+        BRANCH_CONFIG,
+        "goal 1 holds\ngoal 2 holds\ngoal 3 violated 0.0.0.0 0.0.0.0 17 0 53 0\nhop br1 GigabitEthernet0/0 GigabitEthernet0/1\ngoal 4 holds\ngoal 5 holds\ngoal 6 holds\nfails\n",
+        1,
+    ),
+    (
+        "area out 0.0.0.0/0\r\narea lan 10.0.0.0/8\r\ndevice r config r.cfg\r\ninterface r e0 out\r\ninterface r e1 lan\r\ngoal out lan never tcp\r\n",
+        "r.cfg",
+        "interface e0\r\n ip access-group 100 in\r\naccess-list 100 deny tcp any any\r\naccess-list 100 permit ip any any\r\n",
+        "goal 1 holds\nholds\n",
+        0,
+    ),
+    (
+        "area out 0.0.0.0/0\narea lan 10.0.0.0/8\ndevice r config r.cfg\ninterface r e0 out\ninterface r e1 lan\ngoal out lan never tcp\ndevice r2 config r.cfg\n",
+        "r.cfg",
+        "interface e0\n ip access-group 100 in\naccess-list 100 deny tcp any any\naccess-list 100 permit ip any any\n",
+        "goal 1 holds\nholds\n",
+        0,
+    ),
+    ("", "r.cfg", "", "holds\n", 0),
+    (
+        "# two areas\narea A none\n\narea B 10.0.0.0/8,10.1.2.3\r\ndevice r\n\tinterface r e0/0 A",
+        "r.cfg",
+        "",
+        "holds\n",
+        0,
+    ),
+];
 
 #[test]
-fn verdicts(rt: HostRuntime) -> Result<(), Fail> {
-    for (case, net, file, config, text, number) in [
-        ("no configuration", OPEN, "r.cfg", "", VIOLATED, 1),
-        ("tcp is denied", FILTERED, "r.cfg", TCP_DENIED, HOLDS, 0),
-        (
-            "the list isn't defined",
-            FILTERED,
-            "r.cfg",
-            APPLIED,
-            VIOLATED,
-            1,
-        ),
-        ("a way around", AROUND, "d4.cfg", ALL_DENIED, VIOLATED, 1),
-        ("an empty network", "", "r.cfg", "", "holds\n", 0),
-    ] {
-        expect(
+fn goals_that_hold(rt: HostRuntime) -> Result<(), Fail> {
+    for (goal, lines) in HOLDING {
+        expect_between(
             &rt,
             rt.alloc(),
-            case,
+            "check",
+            goal,
+            lines,
+            "goal 1 holds\nholds\n",
+            0,
+        )?;
+    }
+    Ok(())
+}
+
+/// Expects that the goal is violated by this header.
+fn expect_violated<R: Threads + Sync + Abort>(
+    rt: &R,
+    alloc: Global,
+    goal: &str,
+    lines: &str,
+    header: &str,
+) -> Result<(), Fail> {
+    let text = format!(in alloc; "goal 1 violated {header}\nhop r e0 e1\nfails\n")?;
+    expect_between(rt, alloc, "check", goal, lines, text.as_str(), 1)
+}
+
+#[test]
+fn goals_that_are_violated(rt: HostRuntime) -> Result<(), Fail> {
+    for (goal, lines, header) in VIOLATED {
+        expect_violated(&rt, rt.alloc(), goal, lines, header)?;
+    }
+    Ok(())
+}
+
+#[test]
+fn paths_through_networks(rt: HostRuntime) -> Result<(), Fail> {
+    for (net, file, config, text, number) in REPORTS {
+        expect_report(&rt, rt.alloc(), "check", net, file, config, text, number)?;
+    }
+    Ok(())
+}
+
+/// Runs `check net` over the ladder, with this configuration halfway.
+fn expect_of_ladder<R: Threads + Sync + Abort>(
+    rt: &R,
+    alloc: Global,
+    config: &str,
+    text: &str,
+    number: u8,
+) -> Result<(), Fail> {
+    let net = ladder(alloc)?;
+    expect_report(
+        rt,
+        alloc,
+        "check",
+        net.as_str(),
+        "half.cfg",
+        config,
+        text,
+        number,
+    )
+}
+
+#[test]
+fn a_ladder_that_is_shut_halfway(rt: HostRuntime) -> Result<(), Fail> {
+    expect_of_ladder(&rt, rt.alloc(), SHUT_TWICE, "goal 1 holds\nholds\n", 0)
+}
+
+#[test]
+fn a_ladder_that_is_open(rt: HostRuntime) -> Result<(), Fail> {
+    let text = crossed(rt.alloc())?;
+    expect_of_ladder(&rt, rt.alloc(), "", text.as_str(), 1)
+}
+
+/// The report on a goal for each of 70 protocols, of which none is filtered.
+fn all_violated(alloc: Global) -> Result<String, AllocError> {
+    let mut text = String::new(alloc);
+    for protocol in 0..70 {
+        let number = protocol + 1;
+        let line = format!(in alloc; "goal {number} violated 0.0.0.0 0.0.0.0 {protocol} 0 0 0\n")?;
+        text.push_str(line.as_str())?;
+        text.push_str("hop r e0 e1\n")?;
+    }
+    text.push_str("fails\n")?;
+    Ok(text)
+}
+
+#[test]
+fn many_goals(rt: HostRuntime) -> Result<(), Fail> {
+    let net = protocols(rt.alloc())?;
+    let text = all_violated(rt.alloc())?;
+    expect_report(
+        &rt,
+        rt.alloc(),
+        "check",
+        net.as_str(),
+        "r.cfg",
+        "",
+        text.as_str(),
+        1,
+    )
+}
+
+#[test]
+fn a_deep_predicate(rt: HostRuntime) -> Result<(), Fail> {
+    let nots = "not ".repeat(rt.alloc(), 63)?;
+    let goal = format!(in rt.alloc(); "never {nots}any")?;
+    expect_between(
+        &rt,
+        rt.alloc(),
+        "check",
+        goal.as_str(),
+        "",
+        "goal 1 holds\nholds\n",
+        0,
+    )
+}
+
+/// Runs `check net` over the networks of the reports, all in one store.
+fn expect_in_one_store<R: Threads + Sync + Abort, G: Regions>(
+    rt: &R,
+    alloc: Global,
+    store: &mut G,
+) -> Result<(), Fail> {
+    for (net, file, config, text, number) in REPORTS {
+        let files = [("net", net), (file, config)];
+        expect_in(
+            rt,
+            alloc,
+            store,
+            net,
             &["check", "net"],
-            &[("net", net), (file, config)],
+            &files,
             text,
             number,
         )?;
@@ -116,190 +318,40 @@ fn verdicts(rt: HostRuntime) -> Result<(), Fail> {
 }
 
 #[test]
-fn refusals(rt: HostRuntime) -> Result<(), Fail> {
-    for (case, net, config, text) in [
-        ("only", ONLY, "", "refused net line 6 NotBuilt\n"),
-        (
-            "a standard list",
-            FILTERED,
-            STANDARD,
-            "refused r.cfg line 3 NotBuilt\n",
-        ),
-        (
-            "a hostname",
-            FILTERED,
-            HOSTNAME,
-            "refused r.cfg line 3 NotBuilt\n",
-        ),
-    ] {
-        expect(
-            &rt,
-            rt.alloc(),
-            case,
-            &["check", "net"],
-            &[("net", net), ("r.cfg", config)],
-            text,
-            3,
-        )?;
-    }
-    Ok(())
+fn many_runs_in_one_store(rt: HostRuntime) -> Result<(), Fail> {
+    let mut store = Diagrams::new(rt.alloc())?;
+    expect_in_one_store(&rt, rt.alloc(), &mut store)
 }
 
-/// The report where there is no goal, or the refusal of a line of `net`.
-fn refused_net(line: u8) -> &'static str {
-    match line {
-        1 => "refused net line 1 NotBuilt\n",
-        2 => "refused net line 2 NotBuilt\n",
-        3 => "refused net line 3 NotBuilt\n",
-        4 => "refused net line 4 NotBuilt\n",
-        _ => "holds\n",
-    }
-}
-
-#[test]
-fn lines_of_a_network(rt: HostRuntime) -> Result<(), Fail> {
-    for (net, line) in [
-        (
-            "# two areas\narea A none\n\narea B 10.0.0.0/8,10.1.2.3\r\ndevice r\n\tinterface r e0/0 A",
-            0,
-        ),
-        ("area A none\narea A none", 2),
-        ("area none none", 1),
-        ("area A none trusted", 1),
-        ("area A 10.0.0.0/33", 1),
-        ("\n# x\ndevice r conf r.cfg", 3),
-        (
-            "area A none\ndevice r\ninterface r e0 A\ninterface r e0 A",
-            4,
-        ),
-        ("area A none\narea B none\ngoal A B never proto 256", 3),
-        ("area A none\narea B none\ngoal A A never any", 3),
-        ("# \u{7f}", 1),
-    ] {
-        let status = if line == 0 { 0 } else { 3 };
-        expect(
-            &rt,
-            rt.alloc(),
-            net,
-            &["check", "net"],
-            &[("net", net)],
-            refused_net(line),
-            status,
-        )?;
-    }
-    Ok(())
-}
-
-/// The report on `FILTERED` where tcp may cross, or the refusal of a line of `r.cfg`.
-fn refused_config(line: u8) -> &'static str {
-    match line {
-        1 => "refused r.cfg line 1 NotBuilt\n",
-        2 => "refused r.cfg line 2 NotBuilt\n",
-        3 => "refused r.cfg line 3 NotBuilt\n",
-        _ => VIOLATED,
-    }
-}
-
-#[test]
-fn lines_of_a_configuration(rt: HostRuntime) -> Result<(), Fail> {
-    for (config, line) in [
-        (
-            "!\ninterface e0 point-to-point\n ip access-group 101 in\naccess-list 0101 permit 6 any any\naccess-list 2000 deny ip any any",
-            0,
-        ),
-        (
-            "interface e0\nip access-group 0101 in\naccess-list 101 deny ip any any",
-            0,
-        ),
-        (
-            "interface e0\nip access-group 1 in\nip access-group 2 in",
-            0,
-        ),
-        ("ip access-group 101 in", 1),
-        ("interface", 1),
-        (
-            "interface e0\naccess-list 101 deny ip any any\nip access-group 101 out",
-            3,
-        ),
-        ("access-list 99 permit ip any any", 1),
-        ("access-list 101 permit ip any any log", 1),
-        ("access-list 101 permit 256 any any", 1),
-        ("interface e0\nip access-group 101 in now", 2),
-    ] {
-        let status = if line == 0 { 1 } else { 3 };
-        let files = [("net", FILTERED), ("r.cfg", config)];
-        expect(
-            &rt,
-            rt.alloc(),
-            config,
-            &["check", "net"],
-            &files,
-            refused_config(line),
-            status,
-        )?;
-    }
-    Ok(())
-}
+/// Words that fit no command, or name a file that isn't there.
+const OTHER_WORDS: [(&str, &[&str], &str, u8); 7] = [
+    ("no words", &[], "usage\n", 2),
+    ("no file", &["check"], "usage\n", 2),
+    ("a word too many", &["check", "net", "0"], "usage\n", 2),
+    (
+        "another word too many",
+        &["check", "net", "65"],
+        "usage\n",
+        2,
+    ),
+    ("no command", &["gen", "4294967296"], "usage\n", 2),
+    ("a missing file", &["check", "missing"], "", 4),
+    ("a missing configuration", &["check", "between"], "", 4),
+];
 
 #[test]
 fn other_words(rt: HostRuntime) -> Result<(), Fail> {
-    expect(&rt, rt.alloc(), "no words", &[], &[], "usage\n", 2)?;
-    expect(&rt, rt.alloc(), "no file", &["check"], &[], "usage\n", 2)?;
-    expect(
-        &rt,
-        rt.alloc(),
-        "a word too many",
-        &["check", "net", "1"],
-        &[],
-        "usage\n",
-        2,
-    )?;
-    expect(
-        &rt,
-        rt.alloc(),
-        "no command",
-        &["trace", "net"],
-        &[("net", "")],
-        "usage\n",
-        2,
-    )?;
-    expect(
-        &rt,
-        rt.alloc(),
-        "a missing file",
-        &["check", "missing"],
-        &[],
-        "",
-        4,
-    )?;
-    expect(
-        &rt,
-        rt.alloc(),
-        "a missing configuration",
-        &["check", "net"],
-        &[("net", FILTERED)],
-        "",
-        4,
-    )
-}
-
-#[test]
-fn a_file_of_one_byte_too_many(rt: HostRuntime) -> Result<(), Fail> {
-    let long = vec![in rt.alloc(); b'a'; 16_777_217]?;
-    let mut files = shelf(rt.alloc(), &[])?;
-    files.put(b"net", long.as_slice())?;
-    let mut sink = MemSink::new(rt.alloc(), 64)?;
-    assert_eq!(rt;
-        status(&rt, rt.alloc(), &["check", "net"], &mut files, &mut sink)?,
-        3
-    );
-    assert_eq!(rt; sink.bytes(), b"refused net too-long\n".as_slice());
+    let between = filtered(rt.alloc(), "never tcp")?;
+    for (case, words, text, number) in OTHER_WORDS {
+        let files = [("net", OPEN), ("between", between.as_str())];
+        expect(&rt, rt.alloc(), case, words, &files, text, number)?;
+    }
     Ok(())
 }
 
 #[test]
 fn a_write_that_fails(rt: HostRuntime) -> Result<(), Fail> {
-    let mut files = shelf(rt.alloc(), &[("net", FILTERED), ("r.cfg", TCP_DENIED)])?;
+    let mut files = shelf(rt.alloc(), &[("net", OPEN)])?;
     let mut sink = MemSink::new(rt.alloc(), 64)?;
     sink.set_step(8);
     sink.fail_at(2)?;
@@ -307,6 +359,6 @@ fn a_write_that_fails(rt: HostRuntime) -> Result<(), Fail> {
         status(&rt, rt.alloc(), &["check", "net"], &mut files, &mut sink)?,
         5
     );
-    assert_eq!(rt; sink.bytes(), b"goal 1 h".as_slice());
+    assert_eq!(rt; sink.bytes(), b"goal 1 v".as_slice());
     Ok(())
 }

@@ -4,8 +4,7 @@ ghost use Rattle.std.specs.Prelude.{◌≡◌, IfOk};
 ghost use Rattle.std.specs.FinMap.{empty};
 ghost use Rattle.np_outside.specs.MemShelf.{state};
 ghost use Rattle.np_top.specs.Outcome.{texts_of};
-ghost use Rattle.np_top.specs.Tokens.{texts};
-ghost use Rattle.np_cases.specs.Given.{with_files, fresh_with};
+ghost use Rattle.np_cases.specs.Given.{texts, with_files, fresh_with};
 
 use np_outside::MemShelf;
 use std::alloc::{AllocError, Global};

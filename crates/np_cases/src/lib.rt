@@ -6,9 +6,15 @@ mod given;
 pub use given::{shelf, words};
 
 #[cfg(test)]
+mod atoms;
+#[cfg(test)]
 mod check;
 #[cfg(test)]
 mod cuts;
+#[cfg(test)]
+mod networks;
+#[cfg(test)]
+mod refusals;
 #[cfg(test)]
 mod runs;
 #[cfg(test)]

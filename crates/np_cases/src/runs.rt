@@ -1,8 +1,10 @@
 //! How a case is run.
 
 use crate::given::{shelf, words};
+use crate::networks::{applied, filtered};
 use np_outside::{MemShelf, MemSink};
-use np_top::run;
+use np_region::{BlockLists, Regions};
+use np_top::{run, run_in};
 use std::alloc::{AllocError, Global};
 use std::process::Abort;
 use std::test::Fail;
@@ -23,6 +25,25 @@ pub(crate) fn status<R: Threads + Sync>(
     Ok(run(rt, alloc, words.as_slice(), shelf, sink).number())
 }
 
+/// The same with this store of regions.
+fn status_in<R: Threads + Sync, G: Regions>(
+    rt: &R,
+    alloc: Global,
+    store: &mut G,
+    line: &[&str],
+    shelf: &mut MemShelf,
+    sink: &mut MemSink,
+) -> Result<u8, AllocError> {
+    let words = words(alloc, line)?;
+    Ok(run_in(rt, alloc, store, words.as_slice(), shelf, sink).number())
+}
+
+/// Compares what a run gave with the text and the status that it has to give.
+fn compare<R: Abort>(rt: &R, case: &str, sink: &MemSink, status: u8, text: &[u8], number: u8) {
+    assert_eq!(rt; status, number, "the status of {case}");
+    assert_eq!(rt; sink.bytes(), text, "the text of {case}");
+}
+
 /// Runs these words over a shelf, and compares the text and the status.
 pub(crate) fn expect_over<R: Threads + Sync + Abort>(
     rt: &R,
@@ -34,17 +55,31 @@ pub(crate) fn expect_over<R: Threads + Sync + Abort>(
     number: u8,
 ) -> Result<(), Fail> {
     let mut sink = MemSink::new(alloc, ROOM)?;
-    assert_eq!(rt;
-        status(rt, alloc, line, shelf, &mut sink)?,
-        number,
-        "the status of {case}"
-    );
-    assert_eq!(rt; sink.bytes(), text, "the text of {case}");
+    let status = status(rt, alloc, line, shelf, &mut sink)?;
+    compare(rt, case, &sink, status, text, number);
     Ok(())
 }
 
-/// The same over these files.
-pub(crate) fn expect<R: Threads + Sync + Abort>(
+/// The same with this store of regions.
+pub(crate) fn expect_in<R: Threads + Sync + Abort, G: Regions>(
+    rt: &R,
+    alloc: Global,
+    store: &mut G,
+    case: &str,
+    line: &[&str],
+    files: &[(&str, &str)],
+    text: &str,
+    number: u8,
+) -> Result<(), Fail> {
+    let mut shelf = shelf(alloc, files)?;
+    let mut sink = MemSink::new(alloc, ROOM)?;
+    let status = status_in(rt, alloc, store, line, &mut shelf, &mut sink)?;
+    compare(rt, case, &sink, status, text.as_bytes(), number);
+    Ok(())
+}
+
+/// Runs these words over these files, with the store that `run` makes.
+pub(crate) fn expect_by_diagrams<R: Threads + Sync + Abort>(
     rt: &R,
     alloc: Global,
     case: &str,
@@ -55,4 +90,58 @@ pub(crate) fn expect<R: Threads + Sync + Abort>(
 ) -> Result<(), Fail> {
     let mut shelf = shelf(alloc, files)?;
     expect_over(rt, alloc, case, line, &mut shelf, text.as_bytes(), number)
+}
+
+/// The same, and again with block lists as the store.
+pub(crate) fn expect<R: Threads + Sync + Abort>(
+    rt: &R,
+    alloc: Global,
+    case: &str,
+    line: &[&str],
+    files: &[(&str, &str)],
+    text: &str,
+    number: u8,
+) -> Result<(), Fail> {
+    expect_by_diagrams(rt, alloc, case, line, files, text, number)?;
+    let mut store = BlockLists::new(alloc);
+    expect_in(rt, alloc, &mut store, case, line, files, text, number)
+}
+
+/// Runs a command over a network with a configuration in the file of this name.
+pub(crate) fn expect_report<R: Threads + Sync + Abort>(
+    rt: &R,
+    alloc: Global,
+    command: &str,
+    net: &str,
+    file: &str,
+    config: &str,
+    text: &str,
+    number: u8,
+) -> Result<(), Fail> {
+    let files = [("net", net), (file, config)];
+    expect(rt, alloc, net, &[command, "net"], &files, text, number)
+}
+
+/// Runs a command over two areas with this goal, and with these lines of the configuration of the device between them.
+pub(crate) fn expect_between<R: Threads + Sync + Abort>(
+    rt: &R,
+    alloc: Global,
+    command: &str,
+    goal: &str,
+    lines: &str,
+    text: &str,
+    number: u8,
+) -> Result<(), Fail> {
+    let net = filtered(alloc, goal)?;
+    let config = applied(alloc, lines)?;
+    expect_report(
+        rt,
+        alloc,
+        command,
+        net.as_str(),
+        "r.cfg",
+        config.as_str(),
+        text,
+        number,
+    )
 }

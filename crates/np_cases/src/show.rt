@@ -1,5 +1,6 @@
 //! `show NET`.
 
+use crate::networks::OPEN;
 use crate::runs::{expect, expect_over};
 use np_outside::MemShelf;
 use std::alloc::{AllocError, Global};
@@ -7,16 +8,7 @@ use std::process::Abort;
 use std::test::Fail;
 use std::thread::Threads;
 
-/// Two areas and a device between them.
-const OPEN: &str = "area out 0.0.0.0/0
-area lan 10.0.0.0/8
-device r
-interface r e0 out
-interface r e1 lan
-goal out lan never tcp
-";
-
-/// Its canonical text.
+/// The canonical text of two areas and a device between them.
 const OPEN_SHOWN: &str = "depth 8
 area out 0.0.0.0/0
 area lan 10.0.0.0/8
@@ -146,43 +138,6 @@ fn canonical_texts(rt: HostRuntime) -> Result<(), Fail> {
         ("an empty file", "", "depth 8\n"),
     ] {
         expect_shown(&rt, rt.alloc(), case, net.as_bytes(), text, 0)?;
-    }
-    Ok(())
-}
-
-/// The lines of `OPEN`, and then this one.
-fn with_line(alloc: Global, line: &[u8]) -> Result<Vec<u8>, AllocError> {
-    let mut net = Vec::new(alloc);
-    net.extend_from_slice(OPEN.as_bytes())?;
-    net.extend_from_slice(line)?;
-    net.push(b'\n')?;
-    Ok(net)
-}
-
-#[test]
-fn refused_lines(rt: HostRuntime) -> Result<(), Fail> {
-    let deep = format!(in rt.alloc(); "goal out lan never{} any", " not".repeat(rt.alloc(), 64)?)?;
-    for (line, why) in [
-        (b"# \x80".as_slice(), "NotText"),
-        (b"sa t esp r r", "NotBuilt"),
-        (b"color red", "UnknownStatement"),
-        (b"area z", "BadShape"),
-        (b"area 1z none", "BadName"),
-        (b"area none none", "BadName"),
-        (b"area z 10.0.0.0/33", "BadNumber"),
-        (b"device r", "Duplicate"),
-        (b"interface r e2 nowhere", "UnknownName"),
-        (b"goal out lan never and tcp", "BadPred"),
-        (b"goal out lan never dscp 64", "BadPred"),
-        (b"goal out lan never dscp 9-8", "BadPred"),
-        (b"goal out lan never dscp ef", "BadPred"),
-        (b"goal out lan never dscp", "BadPred"),
-        (deep.as_bytes(), "TooDeep"),
-        (b"goal lan lan never any", "SameArea"),
-    ] {
-        let net = with_line(rt.alloc(), line)?;
-        let text = format!(in rt.alloc(); "refused net line 7 {why}\n")?;
-        expect_shown(&rt, rt.alloc(), why, net.as_slice(), text.as_str(), 3)?;
     }
     Ok(())
 }

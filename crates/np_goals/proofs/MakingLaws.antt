@@ -1,5 +1,5 @@
 -- The sets of a case say of each atom what the lists and the goals say of its least member.
-use Rattle.std.proofs.Common.{◌≡◌, ℕ, ◌+◌, ◌-◌, ◌*◌, ◌<◌, ◌≤◌, ◌&&◌, Bool, true, false, not, List, [], ◌∷◌, ◌++◌, ◌⊎◌, length, map, get_or, replicate, length-append, refl, sym, ◌∙◌, ap, subst, inl, inr, arith}
+use Rattle.std.proofs.Common.{◌≡◌, ℕ, ◌+◌, ◌*◌, ◌<◌, ◌≤◌, ◌&&◌, Bool, true, false, not, List, [], ◌∷◌, ◌++◌, ◌⊎◌, length, map, get_or, replicate, length-append, refl, sym, ◌∙◌, ap, subst, inl, inr, arith}
 use Rattle.std.specs.Prelude.{Option, None, Some, IfSome, if◌then◌else◌}
 use Rattle.std.specs.Option.{option_map_or}
 use Rattle.std.proofs.Math.ListN.{get_or-append}
@@ -10,7 +10,6 @@ use Rattle.np_space.specs.declared.headers.Header.{Header}
 use Rattle.np_acl.specs.declared.entries.Entry.{Entry}
 use Rattle.np_acl.specs.Entries.{list_permits}
 use Rattle.np_pred.specs.Meaning.{pred_holds}
-use Rattle.np_pred.specs.declared.predicate.Pred.{Pred}
 use Rattle.np_atomset.specs.AtomSet.{has_member, without}
 use Rattle.np_atomset.proofs.Sets.{has_member-all, has_member-without, length-combine}
 use Rattle.np_atomizer.specs.Atoms.{AreAtoms, leasts_of}
@@ -22,7 +21,7 @@ use Rattle.np_cut.specs.AppliedLists.{AppliedLists, IsApplied, applied_lets, pla
 use Rattle.np_cut.specs.FilterCuts.{list_test, pred_test, list_tests, pred_tests, filter_tests}
 use Rattle.np_flow.specs.Postures.{lets_atom, AllHaveLength}
 use Rattle.np_goals.specs.Verdicts.{forbids}
-use Rattle.np_goals.specs.Cases.{HasSizes, IsCaseOf, goal_at}
+use Rattle.np_goals.specs.Cases.{IsCaseOf, goal_at}
 use Rattle.np_goals.specs.Making.{crossing_set, forbidden_set, AreForbidden}
 use Rattle.np_goals.specs.declared.cases.Case.{Case}
 

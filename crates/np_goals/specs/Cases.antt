@@ -1,8 +1,7 @@
 -- A network's filtering, atom by atom.
-use Rattle.std.specs.Prelude.{◌≡◌, ℕ, ◌<◌, ◌*◌, Bool, List, [], length, slice_index_or}
+use Rattle.std.specs.Prelude.{◌≡◌, ℕ, ◌<◌, ◌*◌, List, [], length, slice_index_or}
 use Rattle.np_space.specs.Header.{zeros}
 use Rattle.np_space.specs.Classes.{AreLeasts}
-use Rattle.np_space.specs.declared.headers.Header.{Header}
 use Rattle.np_atomset.specs.AtomSet.{has_member}
 use Rattle.np_net.specs.declared.filtering.Goal.{Goal}
 use Rattle.np_net.specs.declared.filtering.Interface.{Interface}

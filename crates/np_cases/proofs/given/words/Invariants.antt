@@ -1,6 +1,6 @@
 use Rattle.std.proofs.Common.{◌≡◌, ◌++◌, drop}
 use Rattle.np_top.specs.Outcome.{texts_of}
-use Rattle.np_top.specs.Tokens.{texts}
+use Rattle.np_cases.specs.Given.{texts}
 use Rattle.np_cases.proofs.given.words.Given as goal
 
 abbrev pub invariant-loop-word : goal.invariant-loop-word

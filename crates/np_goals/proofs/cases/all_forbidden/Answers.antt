@@ -1,4 +1,4 @@
-use Rattle.std.proofs.Common.{◌≡◌, length, ◌-◌, arith}
+use Rattle.std.proofs.Common.{length, ◌-◌, arith}
 use Rattle.np_atomizer.specs.Atoms.{atoms_in, sets_in}
 use Rattle.np_goals.proofs.MakingLaws.{forbidden_more}
 use Rattle.np_goals.proofs.cases.all_forbidden.Goals as goal

@@ -25,5 +25,5 @@ returns g c =
     let from_lists : AreForbidden sets (length atoms) (length applied.lists) read (length read) bad = subst (λ m. AreForbidden sets (length atoms) m read (length read) bad) first c.in_ok-bad.ensures in
     let forbidden : AreForbidden sets (length atoms) (length applied.lists) net.goals (length net.goals) bad = subst (λ gs. AreForbidden sets (length atoms) (length applied.lists) gs (length gs) bad) goals from_lists in
     let places : c.as_slice.result.now ≡ applied.at = c.as_slice.ensures ∙ ap (λ a. a.at) c.applied.view_is in
-    let slots : c.in_ok-slots.slots ≡ map (crossing_set sets (length atoms)) applied.at = c.in_ok-slots.ensures ∙ ap (map (crossing_set sets (length atoms))) places in
+    let slots : c.in_ok-slots.slots ≡ map (crossing_set sets (length atoms)) applied.at = subst (λ ps. c.in_ok-slots.slots ≡ map (crossing_set sets (length atoms)) ps) places c.in_ok-slots.ensures in
     case_is fits has c.args.store.now net.goals applied atoms sets c.requires.atoms net.interfaces (subst IsApplied c.applied.view_is c.applied.invariant) c.requires.slots bad forbidden _ slots refl (c.from_vec-leasts.ensures ∙ c.in_ok-leasts.ensures)

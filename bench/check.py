@@ -8,6 +8,7 @@ program is bin/netpol of this repository. Nothing here is a test: timings depend
 """
 
 import os
+import random
 import subprocess
 import sys
 import tempfile
@@ -29,14 +30,14 @@ def ring(areas, goals):
 
 
 def open_ring(areas, goals):
-    """The same with goals for every protocol and nothing denied, so that each is violated at once."""
+    """The same with goals for every packet and nothing denied, so that each is violated at once."""
     net, config = ring(areas, goals)
     net = [line.replace('never tcp', 'never any') for line in net]
     return net, config[:4] + ['access-list 100 permit ip any any']
 
 
 def shut_chain(areas, goals):
-    """A chain shut in its middle, with goals for every protocol: each protocol is searched for each goal."""
+    """A chain shut in its middle, with goals for every packet."""
     net = [f'area a{k} none' for k in range(areas)]
     net += [f'device d{k}' + (' config d.cfg' if k == areas // 2 else '') for k in range(areas - 1)]
     for k in range(areas - 1):
@@ -45,13 +46,64 @@ def shut_chain(areas, goals):
     return net, ['interface e0', ' ip access-group 100 in', 'access-list 100 deny ip any any']
 
 
+def address(number):
+    return '.'.join(str(number >> shift & 255) for shift in (24, 16, 8, 0))
+
+
+def host_entry(chance, kind):
+    return f'access-list 100 {kind} tcp host {address(chance.getrandbits(32))} {address(chance.getrandbits(24) << 8)} 0.0.0.255 eq {chance.randrange(1, 65536)}'
+
+
 def long_list(entries):
-    """One device with a list of so many entries."""
+    """Two areas, and one list of so many entries between them, each for a host, a prefix and a port."""
+    chance = random.Random(1)
     net = ['area x none', 'area y none', 'device d config d.cfg', 'interface d e0 x', 'interface d e1 y']
-    net += ['goal x y never any']
+    net += ['goal x y never udp', 'goal x y only and tcp dst 10.0.0.0/8']
     config = ['interface e0', ' ip access-group 100 in']
-    config += [f'access-list 100 deny {k % 255} any any' for k in range(entries)]
+    config += [host_entry(chance, 'deny' if k % 5 == 0 else 'permit') for k in range(entries)]
     return net, config
+
+
+def many_lists(devices, entries, goals):
+    """Devices in a ring, each with two lists of its own of so many entries, in at both interfaces."""
+    net = [f'area a{k} none' for k in range(devices)]
+    net += [f'device d{k} config d{k}.cfg' for k in range(devices)]
+    for k in range(devices):
+        net += [f'interface d{k} e0 a{k}', f'interface d{k} e1 a{(k + 1) % devices}']
+    net += [f'goal a{g % devices} a{(g + 1 + g // devices) % devices} never and tcp dport {20 + g}' for g in range(goals)]
+    configs = {}
+    for k in range(devices):
+        chance = random.Random(k)
+        config = ['interface e0', ' ip access-group 100 in', 'interface e1', ' ip access-group 101 in']
+        for name in ('100', '101'):
+            lines = [host_entry(chance, 'deny' if n % 5 == 0 else 'permit') for n in range(entries)]
+            config += [line.replace('access-list 100', f'access-list {name}') for line in lines]
+        configs[f'd{k}.cfg'] = config
+    return net, configs
+
+
+def chain(areas):
+    """A line of areas with a small list at each device, and goals from end to end."""
+    net = [f'area a{k} none' for k in range(areas)]
+    net += [f'device d{k} config d{k}.cfg' for k in range(areas - 1)]
+    for k in range(areas - 1):
+        net += [f'interface d{k} e0 a{k}', f'interface d{k} e1 a{k + 1}']
+    net += [f'goal a0 a{areas - 1} never tcp', f'goal a{areas - 1} a0 never udp']
+    configs = {}
+    for k in range(areas - 1):
+        configs[f'd{k}.cfg'] = ['interface e0', ' ip access-group 100 in',
+                                f'access-list 100 deny tcp any any eq {k + 1}', 'access-list 100 permit ip any any']
+    return net, configs
+
+
+def ladder(rungs):
+    """Two lines of areas, joined at each device, and shut at the one in the middle."""
+    net = [line for k in range(rungs + 1) for line in (f'area a{k} none', f'area b{k} none')]
+    net += [f'device d{k}' + (' config d.cfg' if k == rungs // 2 else '') for k in range(rungs)]
+    for k in range(rungs):
+        net += [f'interface d{k} e0 a{k}', f'interface d{k} e1 b{k}', f'interface d{k} e2 a{k + 1}', f'interface d{k} e3 b{k + 1}']
+    net += [f'goal a0 a{rungs} never any']
+    return net, ['interface e0', ' ip access-group 100 in', 'interface e1', ' ip access-group 100 in', 'access-list 100 deny ip any any']
 
 
 def long_text(megabytes):
@@ -60,20 +112,24 @@ def long_text(megabytes):
 
 
 CASES = [
+    ('two areas, a list of 20,000 entries', long_list(20000)),
+    ('16 devices, 32 lists of 200 entries, 32 goals', many_lists(16, 200, 32)),
+    ('a line of 128 areas with small lists', chain(128)),
+    ('a ladder of 101 rungs, shut in its middle', ladder(101)),
     ('a ring of 256 areas, 256 goals for tcp', ring(256, 256)),
     ('the same open, 256 goals for any', open_ring(256, 256)),
-    ('a chain of 64 areas, shut, 16 goals for any', shut_chain(64, 16)),
     ('a chain of 256 areas, shut, 16 goals for any', shut_chain(256, 16)),
-    ('a list of 20,000 entries', long_list(20000)),
     ('15 MiB of comments', long_text(15)),
 ]
 
 
 def main():
     program = os.path.abspath(sys.argv[1]) if len(sys.argv) > 1 else os.path.join(HERE, '..', 'bin', 'netpol')
-    for name, (net, config) in CASES:
+    for name, (net, configs) in CASES:
+        if not isinstance(configs, dict):
+            configs = {'d.cfg': configs}
         with tempfile.TemporaryDirectory() as folder:
-            for file, lines in (('net', net), ('d.cfg', config)):
+            for file, lines in (('net', net), *configs.items()):
                 with open(os.path.join(folder, file), 'w') as out:
                     out.write(''.join(line + '\n' for line in lines))
             start = time.monotonic()

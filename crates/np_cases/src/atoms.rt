@@ -1,5 +1,7 @@
 //! `atoms NET`.
 
+ghost use Rattle.std.specs.Prelude.{◌<◌};
+
 use crate::networks::{TCP_DENIED, applied, filtered, pairs, protocols};
 use crate::runs::{expect, expect_between, expect_by_diagrams, expect_report};
 use std::alloc::{AllocError, Global};

@@ -1,5 +1,7 @@
 //! The networks and configurations of the cases.
 
+ghost use Rattle.std.specs.Prelude.{◌<◌};
+
 use std::alloc::{AllocError, Global};
 
 /// Two areas and a device between them without a configuration.

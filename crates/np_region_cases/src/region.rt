@@ -173,8 +173,8 @@ fn the_last_fields<R: Abort, S: Regions>(rt: &R, store: &mut S) -> Result<(), Fa
     marked.dscp = 64;
     assert_eq!(rt; whole_has(store, &marked)?, false);
     let mut replies = Block::everything();
-    replies.est = Span::only(1);
-    replies.dscp = Span::only(46);
+    replies.est = Span { low: 1, high: 1 };
+    replies.dscp = Span { low: 46, high: 46 };
     let mut least = header(6, true);
     least.dscp = 46;
     assert_eq!(rt; least_of_meet(store, &replies, &replies)?, Some(least));

@@ -1,4 +1,5 @@
 pub mod DistanceLaws
+pub mod FindingLaws
 pub mod HopLaws
 pub mod JoinLaws
 pub mod LeastLaws

@@ -2,11 +2,13 @@
 #![tactic(auto)]
 
 mod distances;
+mod laws;
 mod posture;
 mod rounds;
 mod shortest;
 mod spreading;
 
+pub use laws::each_search_ends;
 pub use posture::Posture;
 pub use shortest::first_path;
 pub use spreading::{Reached, flow};

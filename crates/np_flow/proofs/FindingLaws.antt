@@ -1,8 +1,9 @@
 -- Each search for a path ends: with the first path, or because there is none.
 use Rattle.std.proofs.Common.{◌≡◌, ◌≢◌, ◌⊎◌, ℕ, zero, suc, ◌+◌, ◌*◌, ◌<◌, ◌≤◌, Bool, true, false, List, [], ◌∷◌, ◌++◌, length, Option, Some, None, set, replicate, sym, ◌∙◌, ap, subst, inl, inr, refl, arith, add-one, get_or-set_same, get_or-set_other}
-use Rattle.std.proofs.lemmas.Bool.{cases_eq, cases_lt}
-use Rattle.std.proofs.lemmas.List.{length-set, length-replicate, get_or-replicate, get_or_past}
+use Rattle.std.proofs.lemmas.Bool.{cases_eq}
+use Rattle.std.proofs.lemmas.List.{length-set, length-replicate}
 use Rattle.np_atomset.specs.AtomSet.{has_member}
+use Rattle.np_atomset.proofs.Sets.{has_member-none}
 use Rattle.np_net.specs.declared.filtering.Interface.{Interface}
 use Rattle.np_net.specs.Path.{device_of, area_of}
 use Rattle.np_flow.specs.Spread.{AreWithin}
@@ -29,10 +30,12 @@ has_bound f (suc n) =
 
 -- ---- what is decided
 
-true_or_false : (b : Bool) → (b ≡ true) ⊎ (b ≡ true → ⊥)
+-- a test holds or doesn't
+pub true_or_false : (b : Bool) → (b ≡ true) ⊎ (b ≡ true → ⊥)
 true_or_false true = inl refl
 true_or_false false = inr (λ e. let no : false ≡ true = e in cc)
 
+-- a distance is this number or isn't
 same_distance : (o : Option ℕ) (m : ℕ) → (o ≡ Some m) ⊎ (o ≡ Some m → ⊥)
 same_distance None m = inr (λ e. let no : None ≡ Some m = e in cc)
 same_distance (Some k) m = elim (cases_eq k m) [
@@ -40,21 +43,16 @@ same_distance (Some k) m = elim (cases_eq k m) [
   | inr other ↦ inr (λ e. let no : Some k ≡ Some m = e in let same : k ≡ m = cc in other same)
 ]
 
-both_or_not : {P Q : Type 0} → P ⊎ (P → ⊥) → Q ⊎ (Q → ⊥) → (P × Q) ⊎ (P × Q → ⊥)
+-- so it is decided of two statements together
+pub both_or_not : {P Q : Type 0} → P ⊎ (P → ⊥) → Q ⊎ (Q → ⊥) → (P × Q) ⊎ (P × Q → ⊥)
 both_or_not (inl p) (inl q) = inl (p, q)
 both_or_not (inl p) (inr not_q) = inr (λ both. not_q both.1)
 both_or_not (inr not_p) q = inr (λ both. not_p both.0)
 
+-- there is no distance, or there is one
 none_or_not : (o : Option ℕ) → (o ≡ None) ⊎ (o ≡ None → ⊥)
 none_or_not None = inl refl
 none_or_not (Some m) = inr (λ e. let no : Some m ≡ None = e in cc)
-
--- no device is marked at first
-none-marked : (devices d : ℕ) → has_member (replicate devices false) d ≡ false
-none-marked devices d = elim (cases_lt d devices) [
-  | inl within ↦ get_or-replicate devices d false false within
-  | inr past ↦ get_or_past (replicate devices false) d false (omega (arith, length-replicate {A = Bool} devices false))
-]
 
 module _ (interfaces : List Interface) (lets : ℕ → Bool) where
   -- ---- the devices that let out to an area at a distance
@@ -110,7 +108,7 @@ module _ (interfaces : List Interface) (lets : ℕ → Bool) where
     length-replicate devices false,
     record {
       all = λ k lt its. absurd (omega arith);
-      only = λ d marked. let no : false ≡ true = sym (none-marked devices d) ∙ marked in cc;
+      only = λ d marked. let no : false ≡ true = sym (has_member-none devices d) ∙ marked in cc;
     },
   )
   exits_of distances near devices (suc n) within =

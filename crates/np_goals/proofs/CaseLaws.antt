@@ -132,7 +132,7 @@ le_itself : (x : Header) → header_le x x ≡ true
 le_itself x = elim (le_either x x) [ inl e ↦ e | inr e ↦ e ]
 
 -- nor above a later one
-le_later : (xs : List Header) (i j : ℕ) (d : Header) → IsStrictlySortedBy header_order xs → i ≤ j → j < length xs → header_le (get_or xs i d) (get_or xs j d) ≡ true
+pub le_later : (xs : List Header) (i j : ℕ) (d : Header) → IsStrictlySortedBy header_order xs → i ≤ j → j < length xs → header_le (get_or xs i d) (get_or xs j d) ≡ true
 le_later xs i j d up l m =
     elim (cases_lt i j) [
       | inl below ↦ le_from_less (get_or xs i d) (get_or xs j d) (before_later xs i j d up below m)

@@ -2,3 +2,4 @@ pub mod Verdicts
 pub mod Cases
 pub mod Judging
 pub mod Making
+pub mod Existence

@@ -4,8 +4,10 @@
 mod cases;
 mod flows;
 mod judging;
+mod laws;
 mod verdicts;
 
 pub use cases::{Case, case_of};
 pub use judging::judge;
+pub use laws::{cuts_have_leasts, each_goal_has_a_verdict};
 pub use verdicts::Verdict;

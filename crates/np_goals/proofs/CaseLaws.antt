@@ -51,7 +51,7 @@ module _ (interfaces : List Interface) (f g : ℕ → Bool) (same : (slot : ℕ)
   reaches_same a b r = record { hops = r.hops; carries = carries_same a r.hops b r.carries }
 
 -- the first of the shortest ones
-first_same : (interfaces : List Interface) (f g : ℕ → Bool) → ((slot : ℕ) → slot < 2 * length interfaces → f slot ≡ g slot) → (a : ℕ) (hops : List (ℕ × ℕ)) (b : ℕ) → IsFirstPath interfaces f a hops b → IsFirstPath interfaces g a hops b
+pub first_same : (interfaces : List Interface) (f g : ℕ → Bool) → ((slot : ℕ) → slot < 2 * length interfaces → f slot ≡ g slot) → (a : ℕ) (hops : List (ℕ × ℕ)) (b : ℕ) → IsFirstPath interfaces f a hops b → IsFirstPath interfaces g a hops b
 first_same interfaces f g same a hops b p =
     record {
       carries = carries_same interfaces f g same a hops b p.carries;
@@ -89,7 +89,7 @@ lets_at applied h k None same = refl
 lets_at applied h k (Some n) same = same n
 
 -- both cross a slot, or neither; a place past the lists has none, and permits all
-lets_alike : (applied : AppliedLists) (goals : List Goal) (h k : Header) → IsValid h → IsValid k → IsAlike (filter_tests applied.lists goals) h k → (slot : ℕ) → applied_lets applied slot h ≡ applied_lets applied slot k
+pub lets_alike : (applied : AppliedLists) (goals : List Goal) (h k : Header) → IsValid h → IsValid k → IsAlike (filter_tests applied.lists goals) h k → (slot : ℕ) → applied_lets applied slot h ≡ applied_lets applied slot k
 lets_alike applied goals h k v w alike slot =
     lets_at applied h k (place_at applied slot) (alike_at_lists applied.lists (pred_tests (map (λ goal. goal.pred) goals)) h k v w alike)
 
@@ -98,7 +98,7 @@ forbids_by : (only : Bool) (x y : Bool) → x ≡ y → (if only then not x else
 forbids_by only x y e = λ i. if only then not (e i) else e i
 
 -- a goal forbids both or neither
-forbids_alike : (applied : AppliedLists) (goals : List Goal) (h k : Header) → IsValid h → IsValid k → IsAlike (filter_tests applied.lists goals) h k → (n : ℕ) (d : Goal) → n < length goals → forbids (goal_at goals d n) h ≡ forbids (goal_at goals d n) k
+pub forbids_alike : (applied : AppliedLists) (goals : List Goal) (h k : Header) → IsValid h → IsValid k → IsAlike (filter_tests applied.lists goals) h k → (n : ℕ) (d : Goal) → n < length goals → forbids (goal_at goals d n) h ≡ forbids (goal_at goals d n) k
 forbids_alike applied goals h k v w alike n d below =
     let goal = get_or goals n d in
     forbids_by goal.only (pred_holds goal.pred h) (pred_holds goal.pred k) (alike_at_goals goals h k v w (alike_after_lists applied.lists (pred_tests (map (λ g. g.pred) goals)) h k alike) n d below)
@@ -115,7 +115,7 @@ breaks_alike interfaces applied goals h k w alike n d below b =
 -- ---- lists that ascend
 
 -- each header of a list that ascends stands before the later ones
-before_later : (xs : List Header) (i j : ℕ) (d : Header) → IsStrictlySortedBy header_order xs → i < j → j < length xs → header_order (get_or xs i d) (get_or xs j d) ≡ Less
+pub before_later : (xs : List Header) (i j : ℕ) (d : Header) → IsStrictlySortedBy header_order xs → i < j → j < length xs → header_order (get_or xs i d) (get_or xs j d) ≡ Less
 unfolding IsStrictlySortedBy
 before_later [] i j d up l m = absurd (omega arith)
 before_later (x ∷ xs) i zero d up l m = absurd (omega arith)
@@ -128,7 +128,7 @@ unfolding header_le
 le_from_less x y less = ap is_le less
 
 -- each header is not above itself
-le_itself : (x : Header) → header_le x x ≡ true
+pub le_itself : (x : Header) → header_le x x ≡ true
 le_itself x = elim (le_either x x) [ inl e ↦ e | inr e ↦ e ]
 
 -- nor above a later one

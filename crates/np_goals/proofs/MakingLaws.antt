@@ -46,7 +46,7 @@ forbidden_more sets atoms first goals n bad goal set below at are is =
         ∙ ap (λ m. forbidden_set sets atoms (first + m) (goal_at goals d m).only) last
 
 -- some goal, where there is one of this number
-some_goal : (goals : List Goal) (k : ℕ) → k < length goals → Goal
+pub some_goal : (goals : List Goal) (k : ℕ) → k < length goals → Goal
 some_goal [] k below = absurd (omega arith)
 some_goal (goal ∷ goals) k below = goal
 

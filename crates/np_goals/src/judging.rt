@@ -9,7 +9,7 @@ ghost use Rattle.np_goals.specs.Verdicts.{IsVerdict};
 ghost use Rattle.np_goals.specs.declared.verdicts.Verdict.TheVariants.{Holds};
 
 use crate::cases::Case;
-use crate::flows::flows;
+use crate::flowing::flows;
 use crate::verdicts::Verdict;
 use np_atomset::AtomSet;
 use np_flow::{Reached, first_path};

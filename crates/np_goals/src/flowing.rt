@@ -39,8 +39,8 @@ fn flow_at(
     Ok(Some(flow(alloc, net, posture, area)?))
 }
 
-/// The flows from all areas at which goals begin, by area.
-pub(crate) fn flows(
+/// The flows from all areas at which goals begin, by area. Fails only for want of memory.
+pub fn flows(
     alloc: Global,
     net: &Network,
     posture: &Posture,

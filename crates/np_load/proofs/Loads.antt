@@ -10,12 +10,12 @@ use Rattle.np_net.specs.declared.filtering.Device.{Device}
 use Rattle.np_report.specs.declared.refusals.Refusal.{Refusal}
 use Rattle.np_report.specs.declared.refusals.Refusal.TheVariants as refusals
 use Rattle.np_report.specs.Refusals.{refusal_text}
-use Rattle.np_top.specs.declared.load.Halt.{Halt}
-use Rattle.np_top.specs.declared.load.Halt.TheVariants as halts
-use Rattle.np_top.specs.Limits.{file_limit}
-use Rattle.np_top.specs.Loading.{Loads}
-use Rattle.np_top.specs.Outcome.{device_says, configs_say}
-use Rattle.np_top.specs.Saying.{file_says, or_refused, and_then}
+use Rattle.np_load.specs.declared.halt.Halt.{Halt}
+use Rattle.np_load.specs.declared.halt.Halt.TheVariants as halts
+use Rattle.np_load.specs.Limits.{file_limit}
+use Rattle.np_load.specs.Loading.{Loads}
+use Rattle.np_load.specs.Inputs.{device_says, configs_say}
+use Rattle.np_load.specs.Saying.{file_says, or_refused, and_then}
 
 long_says : {X Fault : Type 0} (why : Fault → Refusal) (reading : List ℕ → Result X Fault) (file text : List ℕ) (found : Option (List ℕ)) →
     text ≡ refusal_text file refusals.TooLong → IsSomeAnd found (λ bytes. file_limit < length bytes) →

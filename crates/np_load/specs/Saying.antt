@@ -10,7 +10,7 @@ use Rattle.np_acl_read.specs.Reading.{config_of}
 use Rattle.np_report.specs.declared.refusals.Refusal.{Refusal}
 use Rattle.np_report.specs.declared.refusals.Refusal.TheVariants as refusal
 use Rattle.np_report.specs.Refusals.{refusal_text}
-use Rattle.np_top.specs.Limits.{file_limit}
+use Rattle.np_load.specs.Limits.{file_limit}
 
 -- what a text says, or the line that is written where it is faulty
 abbrev pub or_refused : {X Fault : Type 0} → (Fault → Refusal) → List ℕ → Result X Fault → Result X (List ℕ)

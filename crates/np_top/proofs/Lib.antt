@@ -1,4 +1,4 @@
-mod Loads
+mod Existing
 mod OneReport
 mod Outcomes
-pub mod Reports
+mod Reports

@@ -1,17 +1,21 @@
 -- The outcome of a run: that there is one at most, and how a run's text comes to be it.
 use Rattle.std.proofs.Common.{◌≡◌, ℕ, ◌<◌, ◌⊎◌, inl, inr, Bool, true, false, List, length, Option, Some, None, Result, Ok, Err, refl, arith, sym, ◌∙◌, ap, subst}
-use Rattle.std.specs.Prelude.{MatchOption, IsSome}
+use Rattle.std.specs.Prelude.{MatchOption, IsSome, if◌then◌else◌}
 use Rattle.np_outside.specs.Files.{Files}
 use Rattle.np_top.specs.declared.status.Status.{Status}
 use Rattle.np_top.specs.declared.status.Status.TheVariants.{Holds, Fails, Usage, Refused, ReadFault, WriteFault, Memory}
 use Rattle.np_net.specs.Plan.{Plan}
 use Rattle.np_top.specs.Commands.{Command, check, atoms, show, command_of}
-use Rattle.np_top.specs.Report.{usage_text}
-use Rattle.np_top.specs.Outcome.{inputs_of, IsAnswer, IsAnswerTo, IsCheckReportOn, IsAtomsReportOn, HasFiles, IsOutcome, IsDefined, IsOneOutcome}
-use Rattle.np_top.specs.Saying.{net_says}
+use Rattle.np_top.specs.Report.{usage_text, IsCheckReport, IsAtomsReport, verdicts_status}
+use Rattle.np_goals.specs.declared.verdicts.Verdict.{Verdict}
+use Rattle.np_report.specs.Verdicts.{all_hold}
+use Rattle.np_load.specs.Inputs.{inputs_of}
+use Rattle.np_load.specs.Saying.{net_says}
+use Rattle.np_top.specs.Outcome.{IsAnswer, IsAnswerTo, IsCheckReportOn, IsAtomsReportOn, HasFiles, IsAccepted, AcceptsFiles, AreAccepted, IsOutcome, IsDefined, IsOneOutcome}
 use Rattle.np_top.specs.Show.{IsCanonical}
-use Rattle.np_top.specs.Status.{IsSettled, IsUnlessFault}
+use Rattle.np_top.specs.Status.{IsReport, IsSettled, IsUnlessFault}
 use Rattle.np_top.specs.Written.{Took, TookPrefix}
+use Rattle.np_top.proofs.Existing.{an_outcome}
 use Rattle.np_top.proofs.OneReport.{Same, one_check_report, one_atoms_report}
 
 one_canonical : (net : Plan) (s t : List ℕ) (x y : Status) → IsCanonical net s x → IsCanonical net t y → Same s x t y
@@ -61,6 +65,7 @@ is_one_outcome = record {
   same_text = λ words files text other status own a b. (one_outcome words files text other status own a b).0;
   same_status = λ words files text other status own a b. (one_outcome words files text other status own a b).1;
   defined = outcome_defined;
+  exists = an_outcome;
 }
 
 -- ---- a run
@@ -105,3 +110,60 @@ written_part Is text status result old new Fault is settled (inr w) fault = (tex
 pub written_only : (status own result : Status) (old new : Option (List ℕ)) (text : List ℕ) (Fault : Type 0) → status ≡ own → IsWritten old new text status Fault result → IsUnlessFault own result
 written_only status own result old new text Fault same (inl w) = subst (IsUnlessFault own) (sym (w.0 ∙ same)) (is_unless_fault own)
 written_only status own result old new text Fault same (inr w) = subst (IsUnlessFault own) (sym w.0) tt
+
+-- ---- files that are accepted
+
+verdicts_reported : (verdicts : List Verdict) → IsReport (verdicts_status verdicts)
+verdicts_reported verdicts = by (all_hold verdicts) where
+  by : (b : Bool) → IsReport (if b then Holds else Fails)
+  by true = tt
+  by false = tt
+
+answer_reported : {X : Type 0} (Is : X → List ℕ → Status → Type 0) → ((x : X) (text : List ℕ) (status : Status) → Is x text status → IsReport status) →
+    (says : Option (Result X (List ℕ))) (text : List ℕ) (status : Status) → IsAccepted says → IsAnswer Is says text status → IsReport status
+answer_reported Is reported None text status accepted is = absurd accepted
+answer_reported Is reported (Some (Err refusal)) text status accepted is = absurd accepted
+answer_reported Is reported (Some (Ok x)) text status accepted is = reported x text status is
+
+-- what answers to files that are accepted is a report
+pub reported : (files : Files) (command : Command) (text : List ℕ) (status : Status) → AcceptsFiles files command → IsAnswerTo files command text status → IsReport status
+reported files (check file) text status accepted is =
+    answer_reported IsCheckReportOn (λ inputs text status is. subst IsReport (sym is.status_is) (verdicts_reported is.verdicts)) (inputs_of files file) text status accepted is
+reported files (atoms file) text status accepted is =
+    answer_reported IsAtomsReportOn (λ inputs text status is. subst IsReport (sym is.status_is) tt) (inputs_of files file) text status accepted is
+reported files (show file) text status accepted is =
+    answer_reported IsCanonical (λ net text status is. subst IsReport (sym is.1) tt) (net_says files file) text status accepted is
+
+accepted_there : {X : Type 0} (says : Option (Result X (List ℕ))) → IsAccepted says → IsSome says
+accepted_there None accepted = absurd accepted
+accepted_there (Some says) accepted = refl
+
+-- files that are accepted are there
+pub accepted_files : (files : Files) (command : Command) → AcceptsFiles files command → HasFiles files command
+accepted_files files (check file) accepted = accepted_there (inputs_of files file) accepted
+accepted_files files (atoms file) accepted = accepted_there (inputs_of files file) accepted
+accepted_files files (show file) accepted = accepted_there (net_says files file) accepted
+
+-- the outcome of a command whose files are accepted
+pub accepted_command : (words : List (List ℕ)) (files : Files) (command : Command) → Some command ≡ command_of words → AreAccepted words files → AcceptsFiles files command
+accepted_command words files command fits accepted = rw fits accepted
+
+-- nothing is accepted for words that fit no command
+pub none_accepted : (words : List (List ℕ)) (files : Files) → None ≡ command_of words → AreAccepted words files → ⊥
+none_accepted words files fits accepted = rw fits accepted
+
+-- a report is written, and the text is the right one with this status
+abbrev pub IsComplete : (List ℕ → Status → Type 0) → Option (List ℕ) → Option (List ℕ) → Status → Type 0
+IsComplete Is old new result = (IsReport result × ((text : List ℕ) × Is text result × Took old new text)) ⊎ (result ≡ Memory)
+
+-- so it is where what is right is to be written, and no write fails
+pub written_complete : (Is : List ℕ → Status → Type 0) (text : List ℕ) (status result : Status) (old new : Option (List ℕ)) (Fault : Type 0) →
+    Is text status → IsReport status → (Fault → ⊥) → IsWritten old new text status Fault result → IsComplete Is old new result
+written_complete Is text status result old new Fault is report no_fault (inl w) = inl (subst IsReport (sym w.0) report, (text, subst (Is text) (sym w.0) is, w.1))
+written_complete Is text status result old new Fault is report no_fault (inr w) = absurd (no_fault w.2)
+
+-- what is complete of a command is complete of its words
+pub complete_outcome : (words : List (List ℕ)) (files : Files) (command : Command) (old new : Option (List ℕ)) (result : Status) → Some command ≡ command_of words →
+    IsComplete (IsAnswerTo files command) old new result → IsComplete (IsOutcome words files) old new result
+complete_outcome words files command old new result fits (inl w) = inl (w.0, (w.1, answer_outcome words files command w.1 result fits w.2, w.3))
+complete_outcome words files command old new result fits (inr w) = inr w

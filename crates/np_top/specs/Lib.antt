@@ -1,10 +1,7 @@
-pub mod Limits
-pub mod Keeping
-pub mod Saying
 pub mod Show
 pub mod Report
 pub mod Commands
 pub mod Outcome
 pub mod Status
-pub mod Loading
+pub mod Replying
 pub mod Written

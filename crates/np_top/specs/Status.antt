@@ -23,6 +23,16 @@ IsSettled ReadFault = ⊥
 IsSettled WriteFault = ⊥
 IsSettled Memory = ⊥
 
+-- a report has been written
+abbrev pub IsReport : Status → Type 0
+IsReport Holds = Unit {0}
+IsReport Fails = Unit {0}
+IsReport Usage = ⊥
+IsReport Refused = ⊥
+IsReport ReadFault = ⊥
+IsReport WriteFault = ⊥
+IsReport Memory = ⊥
+
 -- the run ended so, unless a device or memory failed
 abbrev pub IsUnlessFault : Status → Status → Type 0
 IsUnlessFault status Holds = status ≡ Holds

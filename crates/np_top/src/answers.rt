@@ -13,20 +13,22 @@ ghost use Rattle.np_goals.specs.Verdicts.{IsVerdict};
 ghost use Rattle.np_goals.specs.declared.verdicts.Verdict.TheVariants as verdict;
 ghost use Rattle.np_top.specs.declared.answers.Fault.TheVariants as faults;
 ghost use Rattle.np_top.specs.Commands.{command_in};
-ghost use Rattle.np_top.specs.Keeping.{KeepsShelf};
-ghost use Rattle.np_top.specs.Loading.{inputs_in, Replies};
+ghost use Rattle.np_load.specs.declared.halt.Halt.TheVariants as halts;
+ghost use Rattle.np_load.specs.Keeping.{KeepsShelf};
+ghost use Rattle.np_load.specs.Loading.{inputs_in};
+ghost use Rattle.np_top.specs.Replying.{Replies};
 ghost use Rattle.np_top.specs.Outcome.{IsAnswerTo, IsAtomsReportOn, IsCheckReportOn, HasFiles};
 ghost use Rattle.np_top.specs.Show.{IsCanonical};
 ghost use Rattle.np_top.specs.Status.{IsSettled};
 
 use crate::commands::Command;
-use crate::load::{Halt, Inputs, load_inputs, load_net};
 use crate::report::{Answer, atoms_report, canonical, verdicts_report};
 use crate::status::Status;
 use np_acl_read::Config;
 use np_atomizer::{Atoms, atomize};
 use np_cut::{Applied, apply, filter_cuts};
 use np_goals::{Verdict, case_of, judge};
+use np_load::{Halt, Inputs, load_inputs, load_net};
 use np_net::Network;
 use np_outside::Shelf;
 use np_region::Regions;
@@ -115,8 +117,8 @@ fn answer<G: Regions, S: Shelf>(
     ensures says { (files : Files) → S.files shelf.old ≡ Some files → Replies result (IsAnswerTo files (command_in command.entry)) }
     ensures settled { IfOk result (λ answer. IsSettled answer.status × (answer.status ≢ Status.Usage)) }
 
-    ensures failed { IsErrOf result Halt.ReadFault → Rose (S.faults shelf.old) (S.faults shelf.new) }
-    ensures broken { IsErrOf result Halt.ReadFault → (files : Files) → S.files shelf.old ≡ Some files →
+    ensures failed { IsErrOf result halts.ReadFault → Rose (S.faults shelf.old) (S.faults shelf.new) }
+    ensures broken { IsErrOf result halts.ReadFault → (files : Files) → S.files shelf.old ≡ Some files →
         HasFiles files (command_in command.entry) → Rose (S.breaks shelf.old) (S.breaks shelf.new) }
     ensures shelf { KeepsShelf S.files S.cap S.faults S.breaks shelf.old shelf.new }
     ensures store { KeepsRegions G.fits G.has_header store.old store.new }

@@ -4,7 +4,6 @@
 mod answers;
 mod commands;
 mod laws;
-mod load;
 mod report;
 mod status;
 mod top;

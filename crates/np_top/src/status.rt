@@ -3,7 +3,7 @@
 /// How a run ended. Its number is the program's exit status.
 #[derive(Clone, Copy, Debug, PartialEq, Eq)]
 pub enum Status {
-    /// 0: the report is written, and all goals hold; or the canonical text of a network is written.
+    /// 0: the report on the goals is written, and all hold; or that on the atoms is, or a network's canonical text.
     Holds,
 
     /// 1: the report is written, and a goal is violated.

@@ -3,12 +3,12 @@
 ghost use Rattle.std.specs.Prelude.{◌≡◌, ◌≢◌, ◌≤◌, ◌⊎◌, ℕ, List, Some, IsSome, IsNone};
 ghost use Rattle.np_outside.specs.Counts.{Rose};
 ghost use Rattle.np_outside.specs.Files.{Files};
+ghost use Rattle.np_load.specs.Keeping.{KeepsShelf};
 ghost use Rattle.np_region.specs.Keeping.{KeepsRegions};
 ghost use Rattle.np_top.specs.Commands.{command_in, command_of};
-ghost use Rattle.np_top.specs.Outcome.{texts_of, HasFiles, IsAnswerTo, IsOutcome, IsDefined};
-ghost use Rattle.np_top.specs.Keeping.{KeepsShelf};
+ghost use Rattle.np_top.specs.Outcome.{texts_of, AcceptsFiles, AreAccepted, HasFiles, IsAnswerTo, IsOutcome, IsDefined};
 ghost use Rattle.np_top.specs.Report.{usage_text};
-ghost use Rattle.np_top.specs.Status.{IsSettled, IsUnlessFault};
+ghost use Rattle.np_top.specs.Status.{IsReport, IsSettled, IsUnlessFault};
 ghost use Rattle.np_top.specs.Written.{Took, TookPrefix};
 
 use crate::answers::{Fault, respond};
@@ -59,6 +59,9 @@ fn run_command<G: Regions, S: Shelf, K: Sink>(
     ensures memory { result ≡ Status.Memory → K.taken sink.new ≡ K.taken sink.old }
     ensures faultless { (Rose (S.faults shelf.old) (S.faults shelf.new) → ⊥) → (Rose (K.faults sink.old) (K.faults sink.new) → ⊥) →
         IsSettled result ⊎ (result ≡ Status.Memory) }
+    ensures complete { (files : Files) → S.files shelf.old ≡ Some files → AcceptsFiles files (command_in command.entry) →
+        (Rose (S.breaks shelf.old) (S.breaks shelf.new) → ⊥) → (Rose (K.faults sink.old) (K.faults sink.new) → ⊥) →
+        IsReport result × ((text : List ℕ) × IsAnswerTo files (command_in command.entry) text result × Took (K.taken sink.old) (K.taken sink.new) text) ⊎ (result ≡ Status.Memory) }
 
     ensures shelf { KeepsShelf S.files S.cap S.faults S.breaks shelf.old shelf.new }
     ensures faults_cap { K.cap sink.new ≡ K.cap sink.old }
@@ -115,6 +118,13 @@ pub fn run_in<R: Threads + Sync, G: Regions, S: Shelf, K: Sink>(
     // Without a fault of a device the status is 0 to 3, or memory failed.
     ensures faultless { (Rose (S.faults shelf.old) (S.faults shelf.new) → ⊥) → (Rose (K.faults sink.old) (K.faults sink.new) → ⊥) →
         IsSettled result ⊎ (result ≡ Status.Memory) }
+
+    // Completeness: where the words fit a command, all its files are there, within their limit and in their grammars, and
+    // neither the shelf's breaks nor the sink's faults rose, the outcome's text is written, with its status, 0 or 1, or
+    // memory failed.
+    ensures complete { (files : Files) → S.files shelf.old ≡ Some files → AreAccepted (texts_of words.now) files →
+        (Rose (S.breaks shelf.old) (S.breaks shelf.new) → ⊥) → (Rose (K.faults sink.old) (K.faults sink.new) → ⊥) →
+        IsReport result × ((text : List ℕ) × IsOutcome (texts_of words.now) files text result × Took (K.taken sink.old) (K.taken sink.new) text) ⊎ (result ≡ Status.Memory) }
 
     // What the shelf and the sink tell stays, and their counts do not fall.
     ensures files { S.files shelf.new ≡ S.files shelf.old }
@@ -177,6 +187,13 @@ pub fn run<R: Threads + Sync, S: Shelf, K: Sink>(
     // Without a fault of a device the status is 0 to 3, or memory failed.
     ensures faultless { (Rose (S.faults shelf.old) (S.faults shelf.new) → ⊥) → (Rose (K.faults sink.old) (K.faults sink.new) → ⊥) →
         IsSettled result ⊎ (result ≡ Status.Memory) }
+
+    // Completeness: where the words fit a command, all its files are there, within their limit and in their grammars, and
+    // neither the shelf's breaks nor the sink's faults rose, the outcome's text is written, with its status, 0 or 1, or
+    // memory failed.
+    ensures complete { (files : Files) → S.files shelf.old ≡ Some files → AreAccepted (texts_of words.now) files →
+        (Rose (S.breaks shelf.old) (S.breaks shelf.new) → ⊥) → (Rose (K.faults sink.old) (K.faults sink.new) → ⊥) →
+        IsReport result × ((text : List ℕ) × IsOutcome (texts_of words.now) files text result × Took (K.taken sink.old) (K.taken sink.new) text) ⊎ (result ≡ Status.Memory) }
 
     // What the shelf and the sink tell stays, and their counts do not fall.
     ensures files { S.files shelf.new ≡ S.files shelf.old }

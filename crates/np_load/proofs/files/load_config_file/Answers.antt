@@ -1,8 +1,8 @@
 use Rattle.std.proofs.lemmas.Result.{err_from_is_err_and}
 use Rattle.np_acl_read.specs.Reading.{config_of}
 use Rattle.np_report.specs.declared.refusals.Refusal.TheVariants.{Config}
-use Rattle.np_top.proofs.Loads.{bytes_halt}
-use Rattle.np_top.proofs.load.load_file.Goals as goal
+use Rattle.np_load.proofs.Loads.{bytes_halt}
+use Rattle.np_load.proofs.files.load_config_file.Goals as goal
 
 pub returns-in_err-bytes-clause-says : goal.returns-in_err-bytes-clause-says
 returns-in_err-bytes-clause-says g c = λ files told.

@@ -1,7 +1,7 @@
 use Rattle.std.proofs.Common.{rules, ◌≡◌, ◌<◌, suc, ◌+◌, ◌∷◌, length, drop, add-one, drop-cons, sym, ◌∙◌, ap, arith}
-use Rattle.np_top.proofs.Loads.{one_more, behind}
-use Rattle.np_top.specs.Outcome.{configs_say}
-use Rattle.np_top.proofs.load.load_configs.Goals as goal
+use Rattle.np_load.proofs.Loads.{one_more, behind}
+use Rattle.np_load.specs.Inputs.{configs_say}
+use Rattle.np_load.proofs.inputs.load_configs.Goals as goal
 
 pub loop-device-preserved : goal.loop-device-preserved
 loop-device-preserved g c =

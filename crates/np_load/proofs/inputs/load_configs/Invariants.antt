@@ -1,9 +1,9 @@
 use Rattle.std.proofs.Common.{◌≡◌, Some, drop}
 use Rattle.np_outside.specs.Files.{Files}
-use Rattle.np_top.specs.Keeping.{KeepsShelf}
-use Rattle.np_top.specs.Outcome.{configs_say}
-use Rattle.np_top.proofs.Loads.{behind}
-use Rattle.np_top.proofs.load.load_configs.Given as goal
+use Rattle.np_load.specs.Keeping.{KeepsShelf}
+use Rattle.np_load.specs.Inputs.{configs_say}
+use Rattle.np_load.proofs.Loads.{behind}
+use Rattle.np_load.proofs.inputs.load_configs.Given as goal
 
 abbrev pub invariant-loop-device : goal.invariant-loop-device
 invariant-loop-device g l = record {

@@ -2,7 +2,7 @@ use Rattle.np_top.specs.declared.status.Status.TheVariants.{Usage}
 use Rattle.np_top.specs.Commands.{command_in}
 use Rattle.np_top.specs.Outcome.{texts_of, IsOutcome}
 use Rattle.np_top.specs.Report.{usage_text}
-use Rattle.np_top.proofs.Outcomes.{usage_outcome, answer_outcome, written_whole, written_part}
+use Rattle.np_top.proofs.Outcomes.{usage_outcome, answer_outcome, written_whole, written_part, complete_outcome, accepted_command, none_accepted}
 use Rattle.np_top.proofs.top.run.Goals as goal
 
 pub returns-in_default-clause-outcome : goal.returns-in_default-clause-outcome
@@ -17,3 +17,13 @@ pub returns-in-Ok-clause-write_prefix : goal.returns-in-Ok-clause-write_prefix
 returns-in-Ok-clause-write_prefix g c = λ is files told.
     let p = c.run_command.ensures.write_prefix is files told in
     (p.0, p.1, answer_outcome (texts_of c.args.words.now) files (command_in c.in-Some.command) p.0 p.1 c.in-Some.ensures p.2, p.3)
+
+pub returns-in_default-clause-complete : goal.returns-in_default-clause-complete
+returns-in_default-clause-complete g c = λ files told accepted unbroken no_fault.
+    absurd (none_accepted (texts_of c.args.words.now) files c.in_default.ensures accepted)
+
+pub returns-in-Ok-clause-complete : goal.returns-in-Ok-clause-complete
+returns-in-Ok-clause-complete g c = λ files told accepted unbroken no_fault.
+    let command = command_in c.in-Some.command in
+    complete_outcome (texts_of c.args.words.now) files command _ _ _ c.in-Some.ensures
+    (c.run_command.ensures.complete files told (accepted_command (texts_of c.args.words.now) files command c.in-Some.ensures accepted) unbroken no_fault)

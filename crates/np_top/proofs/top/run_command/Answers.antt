@@ -1,6 +1,6 @@
 use Rattle.np_top.specs.Commands.{command_in}
 use Rattle.np_top.specs.Outcome.{IsAnswerTo}
-use Rattle.np_top.proofs.Outcomes.{one_answer_to, written_whole, written_part, written_only}
+use Rattle.np_top.proofs.Outcomes.{one_answer_to, written_whole, written_part, written_only, written_complete, reported, accepted_files}
 use Rattle.np_top.proofs.top.run_command.Goals as goal
 
 pub returns-in-Ok-clause-outcome : goal.returns-in-Ok-clause-outcome
@@ -17,3 +17,9 @@ pub returns-in-Ok-clause-write_prefix : goal.returns-in-Ok-clause-write_prefix
 returns-in-Ok-clause-write_prefix g c = λ is files told.
     written_part (IsAnswerTo files (command_in c.args.command)) c.in-Ok.answer.text c.in-Ok.answer.status c.write.result _ _ _
     (c.in-Ok.ensures.ok files told) c.in-Ok.ensures.settled.0 (rw c.as_slice.ensures at c.write.ensures.written) is
+
+pub returns-in-Ok-clause-complete : goal.returns-in-Ok-clause-complete
+returns-in-Ok-clause-complete g c = λ files told accepted unbroken no_fault.
+    let answer = c.in-Ok.ensures.ok files told in
+    written_complete (IsAnswerTo files (command_in c.args.command)) c.in-Ok.answer.text c.in-Ok.answer.status c.write.result _ _ _
+    answer (reported files (command_in c.args.command) c.in-Ok.answer.text c.in-Ok.answer.status accepted answer) no_fault (rw c.as_slice.ensures at c.write.ensures.written)

@@ -5,13 +5,10 @@ use Rattle.np_lines.specs.declared.text_error.TextError.{TextError}
 use Rattle.np_lines.specs.declared.text_error.TextError.TheVariants as unread
 use Rattle.np_report.specs.declared.refusals.Refusal.{Refusal}
 use Rattle.np_report.specs.Refusals.{refusal_text}
-use Rattle.np_top.specs.declared.load.Halt.{Halt}
-use Rattle.np_top.specs.declared.load.Halt.TheVariants as halts
-use Rattle.np_top.specs.declared.load.Inputs as loaded
-use Rattle.np_top.specs.declared.report.Answer.{Answer}
-use Rattle.np_top.specs.declared.status.Status.{Status}
-use Rattle.np_top.specs.declared.status.Status.TheVariants.{Refused}
-use Rattle.np_top.specs.Outcome.{Inputs}
+use Rattle.np_load.specs.declared.halt.Halt.{Halt}
+use Rattle.np_load.specs.declared.halt.Halt.TheVariants as halts
+use Rattle.np_load.specs.declared.inputs.Inputs as loaded
+use Rattle.np_load.specs.Inputs.{Inputs}
 
 -- what was loaded is what is said, and a refusal is the one that is said; a fault and want of memory say nothing
 abbrev pub LoadsAs : {X Y : Type 0} → (X → Y) → Result X Halt → Option (Result Y (List ℕ)) → Type 0
@@ -32,10 +29,3 @@ inputs_in inputs = record { net = inputs.net; configs = inputs.configs.items }
 abbrev pub HaltsBy : {W : Type 0} → (LineFault W → Refusal) → List ℕ → TextError W → Halt → Type 0
 HaltsBy why file (unread.Fault fault) halt = halt ≡ halts.Refused (refusal_text file (why fault))
 HaltsBy why file (unread.Memory e) halt = halt ≡ halts.Memory
-
--- what is to be written for a command, once its files are loaded, or the line that refuses one; a fault and want of memory say nothing
-abbrev pub Replies : Result Answer Halt → (List ℕ → Status → Type 0) → Type 0
-Replies (Ok answer) Is = Is answer.text answer.status
-Replies (Err (halts.Refused text)) Is = Is text Refused
-Replies (Err halts.ReadFault) Is = Unit {0}
-Replies (Err halts.Memory) Is = Unit {0}

@@ -1,0 +1,5 @@
+pub mod Limits
+pub mod Keeping
+pub mod Saying
+pub mod Inputs
+pub mod Loading

@@ -1,0 +1,78 @@
+-- Where the needed files are there, there is an outcome.
+use Rattle.std.proofs.Common.{◌≡◌, ℕ, zero, suc, ◌<◌, Bool, List, [], ◌∷◌, length, get_or, Option, Some, None, Result, Ok, Err, refl, arith, sym, ◌∙◌, ap, subst}
+use Rattle.std.specs.Prelude.{MatchOption, IsSome}
+use Rattle.np_outside.specs.Files.{Files}
+use Rattle.np_space.specs.declared.headers.Header.{Header}
+use Rattle.np_acl_read.specs.declared.config.Config.{Config}
+use Rattle.np_atomizer.specs.Atoms.{cut_sets}
+use Rattle.np_net.specs.Plan.{Plan}
+use Rattle.np_net.specs.declared.filtering.Goal.{Goal}
+use Rattle.np_net.specs.declared.filtering.Interface.{Interface}
+use Rattle.np_net_read.specs.Canonical.{net_text}
+use Rattle.np_cut.specs.Applying.{applied_of, slot_lets}
+use Rattle.np_goals.specs.Cases.{goal_at}
+use Rattle.np_goals.specs.Verdicts.{IsVerdict}
+use Rattle.np_goals.specs.declared.verdicts.Verdict.{Verdict}
+use Rattle.np_goals.specs.declared.verdicts.Verdict.TheVariants.{Holds}
+use Rattle.np_goals.proofs.ExistenceLaws.{have_leasts, have_verdicts}
+use Rattle.np_report.specs.Atoms.{atoms_text}
+use Rattle.np_report.specs.Verdicts.{verdicts_text}
+use Rattle.np_load.specs.Inputs.{inputs_of}
+use Rattle.np_load.specs.Saying.{net_says}
+use Rattle.np_top.specs.declared.status.Status.{Status}
+use Rattle.np_top.specs.declared.status.Status.TheVariants.{Usage, Refused}
+use Rattle.np_top.specs.declared.status.Status.TheVariants as status
+use Rattle.np_top.specs.Commands.{Command, check, atoms, show, command_of}
+use Rattle.np_top.specs.Outcome.{IsAnswer, IsAnswerTo, IsCheckReportOn, IsAtomsReportOn, HasFiles, IsOutcome, IsDefined}
+use Rattle.np_top.specs.Report.{usage_text, IsCheckReport, IsAtomsReport, cuts_of, verdicts_status}
+use Rattle.np_top.specs.Show.{IsCanonical}
+
+-- right verdicts on goals, one for each
+record Verdicts (interfaces : List Interface) (lets : ℕ → Header → Bool) (goals : List Goal) : Type 0 where
+  verdicts : List Verdict
+  count : length verdicts ≡ length goals
+  right : (k : ℕ) (d : Goal) → k < length goals → IsVerdict interfaces lets (goal_at goals d k) (get_or verdicts k Holds)
+
+all_verdicts : (interfaces : List Interface) (lets : ℕ → Header → Bool) (goals : List Goal) → Verdicts interfaces lets goals
+all_verdicts interfaces lets [] = record { verdicts = []; count = refl; right = λ k d below. absurd (omega (arith, below)) }
+all_verdicts interfaces lets (goal ∷ goals) =
+    let first = have_verdicts interfaces lets goal in
+    let rest = all_verdicts interfaces lets goals in
+    record { verdicts = first.0 ∷ rest.verdicts; count = ap suc rest.count; right = each first.0 first.1 rest }
+  where
+    each : (v : Verdict) → IsVerdict interfaces lets goal v → (rest : Verdicts interfaces lets goals) → (k : ℕ) (d : Goal) → k < length (goal ∷ goals) → IsVerdict interfaces lets (goal_at (goal ∷ goals) d k) (get_or (v ∷ rest.verdicts) k Holds)
+    each v is rest zero d below = is
+    each v is rest (suc k) d below = rest.right k d (omega (arith, below))
+
+-- there is a text and a status
+abbrev There : (List ℕ → Status → Type 0) → Type 0
+There Is = (text : List ℕ) × (status : Status) × Is text status
+
+a_check_report : (net : Plan) (configs : List Config) → There (IsCheckReport net configs)
+a_check_report net configs =
+    let v = all_verdicts net.interfaces (slot_lets net.interfaces configs) net.goals in
+    (verdicts_text net v.verdicts, verdicts_status v.verdicts, record { verdicts = v.verdicts; count = v.count; right = v.right; text_is = refl; status_is = refl })
+
+an_atoms_report : (net : Plan) (configs : List Config) → There (IsAtomsReport net configs)
+an_atoms_report net configs =
+    let found = have_leasts (cuts_of net configs) in (
+      atoms_text net (applied_of net.interfaces configs).names (cut_sets (cuts_of net configs) found.0) found.0,
+      status.Holds,
+      record { leasts = found.0; least = found.1; text_is = refl; status_is = refl },
+    )
+
+an_answer : {X : Type 0} (Is : X → List ℕ → Status → Type 0) → ((x : X) → There (Is x)) → (says : Option (Result X (List ℕ))) → IsSome says → There (IsAnswer Is says)
+an_answer Is some None there = absurd (cc)
+an_answer Is some (Some (Err refusal)) there = (refusal, Refused, (refl, refl))
+an_answer Is some (Some (Ok x)) there = some x
+
+an_answer_to : (files : Files) (command : Command) → HasFiles files command → There (IsAnswerTo files command)
+an_answer_to files (check file) there = an_answer IsCheckReportOn (λ inputs. a_check_report inputs.net inputs.configs) (inputs_of files file) there
+an_answer_to files (atoms file) there = an_answer IsAtomsReportOn (λ inputs. an_atoms_report inputs.net inputs.configs) (inputs_of files file) there
+an_answer_to files (show file) there = an_answer IsCanonical (λ net. (net_text net, status.Holds, (refl, refl))) (net_says files file) there
+
+pub an_outcome : (words : List (List ℕ)) (files : Files) → IsDefined words files → There (IsOutcome words files)
+an_outcome words files there = by (command_of words) there where
+  by : (command : Option Command) → MatchOption command (Unit {0}) (λ c. HasFiles files c) → (text : List ℕ) × (status : Status) × MatchOption command ((text ≡ usage_text) × (status ≡ Usage)) (λ c. IsAnswerTo files c text status)
+  by None there = (usage_text, Usage, (refl, refl))
+  by (Some command) there = an_answer_to files command there

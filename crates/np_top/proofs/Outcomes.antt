@@ -146,11 +146,11 @@ accepted_files files (show file) accepted = accepted_there (net_says files file)
 
 -- the outcome of a command whose files are accepted
 pub accepted_command : (words : List (List ℕ)) (files : Files) (command : Command) → Some command ≡ command_of words → AreAccepted words files → AcceptsFiles files command
-accepted_command words files command fits accepted = rw fits accepted
+accepted_command words files command fits accepted = subst (λ o. MatchOption o ⊥ (λ c. AcceptsFiles files c)) (sym fits) accepted
 
 -- nothing is accepted for words that fit no command
 pub none_accepted : (words : List (List ℕ)) (files : Files) → None ≡ command_of words → AreAccepted words files → ⊥
-none_accepted words files fits accepted = rw fits accepted
+none_accepted words files fits accepted = subst (λ o. MatchOption o ⊥ (λ c. AcceptsFiles files c)) (sym fits) accepted
 
 -- a report is written, and the text is the right one with this status
 abbrev pub IsComplete : (List ℕ → Status → Type 0) → Option (List ℕ) → Option (List ℕ) → Status → Type 0
@@ -165,5 +165,5 @@ written_complete Is text status result old new Fault is report no_fault (inr w) 
 -- what is complete of a command is complete of its words
 pub complete_outcome : (words : List (List ℕ)) (files : Files) (command : Command) (old new : Option (List ℕ)) (result : Status) → Some command ≡ command_of words →
     IsComplete (IsAnswerTo files command) old new result → IsComplete (IsOutcome words files) old new result
-complete_outcome words files command old new result fits (inl w) = inl (w.0, (w.1, answer_outcome words files command w.1 result fits w.2, w.3))
+complete_outcome words files command old new result fits (inl w) = inl (w.0, (w.1.0, answer_outcome words files command w.1.0 result fits w.1.1, w.1.2))
 complete_outcome words files command old new result fits (inr w) = inr w

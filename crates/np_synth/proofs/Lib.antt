@@ -1,0 +1,14 @@
+pub mod TravelLaws
+pub mod ChoosingLaws
+pub mod BreakingLaws
+pub mod StepLaws
+pub mod DroppingLaws
+pub mod HeaderLaws
+pub mod SameLaws
+pub mod LiftingLaws
+pub mod DecidingLaws
+pub mod ChoiceLaws
+pub mod GatheringLaws
+pub mod ExistenceLaws
+pub mod FirstPathLaws
+pub mod UniqueLaws

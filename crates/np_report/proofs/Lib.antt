@@ -1,2 +1,5 @@
 pub mod AtomLaws
 pub mod TextLaws
+pub mod RunLaws
+pub mod DropLaws
+pub mod SynthesisLaws

@@ -2,3 +2,6 @@ pub mod Words
 pub mod Refusals
 pub mod Atoms
 pub mod Verdicts
+pub mod Synthesis
+pub mod Runs
+pub mod Drops

@@ -20,7 +20,7 @@ use np_text::{Name, put_bytes};
 use std::alloc::{AllocError, Global};
 
 // Appends a line of a word and a number.
-fn put_count(text: &mut Vec<u8>, word: &[u8], count: u64) -> Result<(), AllocError>
+pub(crate) fn put_count(text: &mut Vec<u8>, word: &[u8], count: u64) -> Result<(), AllocError>
     ensures { OnOk result (text.new.items ≡ text.old.items ++ line_text (word.now ∷ decimal count ∷ [])) }
 {
     text.extend_from_slice(word)?;

@@ -2,10 +2,15 @@
 #![tactic(auto)]
 
 mod atoms;
+mod laws;
 mod refusals;
+mod sets;
+mod synthesis;
 mod verdicts;
 mod words;
 
 pub use atoms::put_atoms;
+pub use laws::runs_are_maximal;
 pub use refusals::{Refusal, put_refusal};
+pub use synthesis::{put_chosen, put_unattainable};
 pub use verdicts::put_verdicts;

@@ -80,7 +80,7 @@ pub(crate) fn put_header(text: &mut Vec<u8>, h: &Header) -> Result<(), AllocErro
 }
 
 // The device that an interface belongs to.
-fn device_of(net: &Network, id: IfId) -> DevId
+pub(crate) fn device_of(net: &Network, id: IfId) -> DevId
     requires { id < length net.now.interfaces }
     ensures { result ≡ path.device_of net.now.interfaces id }
 {

@@ -1,0 +1,4 @@
+pub mod DepthLaws
+pub mod RangeLaws
+pub mod RuleLaws
+pub mod StepLaws

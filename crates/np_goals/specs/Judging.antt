@@ -22,9 +22,10 @@ pub record IsFlowFrom (net : Plan) (slots : List (List Bool)) (from : ℕ) (sets
   pub lengths : AllHaveLength (atom_count slots) sets
   pub exact : (area atom : ℕ) → area < length net.areas → (has_member (slice_index_or sets area []) atom ≡ true) ↔ Reaches net.interfaces (lets_atom slots atom) from area
 
--- the flow from an area, which is there where a goal begins
+-- the flow from an area, which is there exactly where a goal begins
 pub record IsFlowAt (net : Plan) (slots : List (List Bool)) (area : ℕ) (found : Option Reached) : Type 0 where
   pub begun : (k : ℕ) (d : Goal) → k < length net.goals → (goal_at net.goals d k).from ≡ area → MatchOption found ⊥ (λ reached. IsFlowFrom net slots area reached.sets)
+  pub idle : ((k : ℕ) (d : Goal) → k < length net.goals → (goal_at net.goals d k).from ≡ area → ⊥) → found ≡ None
 
 -- the flows from the first n areas
 pub record AreFlows (net : Plan) (slots : List (List Bool)) (n : ℕ) (flows : List (Option Reached)) : Type 0 where

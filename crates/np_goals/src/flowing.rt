@@ -1,6 +1,6 @@
 //! The flows from the areas at which goals begin.
 
-ghost use Rattle.std.specs.Prelude.{◌≡◌, ◌<◌, ℕ, true, length, IfOk};
+ghost use Rattle.std.specs.Prelude.{◌≡◌, ◌<◌, ℕ, true, false, length, IfOk};
 ghost use Rattle.np_net.specs.declared.filtering.Goal.{Goal as Aim};
 ghost use Rattle.np_flow.specs.Postures.{FitsInterfaces};
 ghost use Rattle.np_goals.specs.Cases.{goal_at};
@@ -12,7 +12,8 @@ use std::alloc::{AllocError, Global};
 
 /// Whether some goal begins at the area.
 fn begins(goals: &[Goal], area: AreaId) -> bool
-    ensures { (k : ℕ) (d : Aim) → k < length goals.now → (goal_at goals.now d k).from ≡ area → result ≡ true }
+    ensures all { (k : ℕ) (d : Aim) → k < length goals.now → (goal_at goals.now d k).from ≡ area → result ≡ true }
+    ensures only { ((k : ℕ) (d : Aim) → k < length goals.now → (goal_at goals.now d k).from ≡ area → ⊥) → result ≡ false }
 {
     for goal in goals {
         if goal.from == area {
@@ -39,7 +40,7 @@ fn flow_at(
     Ok(Some(flow(alloc, net, posture, area)?))
 }
 
-/// The flows from all areas at which goals begin, by area. Fails only for want of memory.
+/// For each area the flow from it where a goal begins there, and nothing elsewhere. Fails only for want of memory.
 pub fn flows(
     alloc: Global,
     net: &Network,

@@ -19,3 +19,5 @@ mod refusals;
 mod runs;
 #[cfg(test)]
 mod show;
+#[cfg(test)]
+mod synth;

@@ -2,7 +2,6 @@
 
 ghost use Rattle.std.specs.Prelude.{◌≡◌, ◌∷◌, ◌++◌, ◌+◌, ◌<◌, ◌≤◌, ◌^◌, [], ℕ, length, map, codes, if◌then◌else◌, slice_index_or, OnOk, OnErr, IfOk};
 ghost use Rattle.std.specs.Fmt.{decimal};
-ghost use Rattle.std.specs.List.{All};
 ghost use Rattle.np_text.specs.Appending.{AppendsFront};
 ghost use Rattle.np_atomset.specs.AtomSet.{has_member};
 ghost use Rattle.np_atomizer.specs.Atoms.{atoms_in, leasts_of, sets_in};
@@ -211,7 +210,6 @@ pub fn put_atoms<R: Drop>(
     applied: &Applied,
     atoms: &Atoms<R>,
 ) -> Result<(), AllocError>
-    requires devices { All (λ name. name.0 < length net.now.devices) applied.now.names }
     requires sets { (k : ℕ) → k < length (sets_in atoms.now) → length (slice_index_or (sets_in atoms.now) k []) ≡ length (atoms_in atoms.now) }
     ensures ok { OnOk result (out.new.items ≡ out.old.items ++ atoms_text net.now applied.now.names (sets_in atoms.now) (leasts_of (atoms_in atoms.now))) }
     ensures err { OnErr result (AppendsFront out.old.items out.new.items (atoms_text net.now applied.now.names (sets_in atoms.now) (leasts_of (atoms_in atoms.now)))) }

@@ -89,7 +89,7 @@ module _ (interfaces : List Interface) (goals : List Goal) (bad worse : ℕ → 
           (turned (2 * length interfaces) (opened (so_far free lets chosen s) s) (opened (so_far free other taken s) s) (tried s))
 
   -- a drop
-  drop_same : (chosen taken : ℕ → Bool) → SameSlots interfaces chosen taken → (slot goal : ℕ) (hops : List (ℕ × ℕ)) → IsDropped interfaces goals bad free chosen slot goal hops → IsDropped interfaces goals worse free taken slot goal hops
+  pub drop_same : (chosen taken : ℕ → Bool) → SameSlots interfaces chosen taken → (slot goal : ℕ) (hops : List (ℕ × ℕ)) → IsDropped interfaces goals bad free chosen slot goal hops → IsDropped interfaces goals worse free taken slot goal hops
   drop_same chosen taken same slot goal hops is =
       record {
         within = is.within;

@@ -1,5 +1,5 @@
 -- Where the needed files are there, there is an outcome.
-use Rattle.std.proofs.Common.{◌≡◌, ℕ, zero, suc, ◌<◌, Bool, List, [], ◌∷◌, length, get_or, Option, Some, None, Result, Ok, Err, refl, arith, sym, ◌∙◌, ap, subst}
+use Rattle.std.proofs.Common.{◌≡◌, ℕ, zero, suc, ◌<◌, Bool, List, [], ◌∷◌, length, get_or, Option, Some, None, Result, Ok, Err, refl, arith, ap}
 use Rattle.std.specs.Prelude.{MatchOption, IsSome}
 use Rattle.np_outside.specs.Files.{Files}
 use Rattle.np_space.specs.declared.headers.Header.{Header}
@@ -22,10 +22,11 @@ use Rattle.np_load.specs.Saying.{net_says}
 use Rattle.np_top.specs.declared.status.Status.{Status}
 use Rattle.np_top.specs.declared.status.Status.TheVariants.{Usage, Refused}
 use Rattle.np_top.specs.declared.status.Status.TheVariants as status
-use Rattle.np_top.specs.Commands.{Command, check, atoms, show, command_of}
-use Rattle.np_top.specs.Outcome.{IsAnswer, IsAnswerTo, IsCheckReportOn, IsAtomsReportOn, HasFiles, IsOutcome, IsDefined}
+use Rattle.np_top.specs.Commands.{Command, check, atoms, synth, show, command_of}
+use Rattle.np_top.specs.Outcome.{IsAnswer, IsAnswerTo, IsCheckReportOn, IsAtomsReportOn, IsSynthesisReportOn, HasFiles, IsOutcome, IsDefined}
 use Rattle.np_top.specs.Report.{usage_text, IsCheckReport, IsAtomsReport, cuts_of, verdicts_status}
 use Rattle.np_top.specs.Show.{IsCanonical}
+use Rattle.np_top.proofs.SynthesisLaws.{a_synthesis_report}
 
 -- right verdicts on goals, one for each
 record Verdicts (interfaces : List Interface) (lets : ℕ → Header → Bool) (goals : List Goal) : Type 0 where
@@ -69,6 +70,7 @@ an_answer Is some (Some (Ok x)) there = some x
 an_answer_to : (files : Files) (command : Command) → HasFiles files command → There (IsAnswerTo files command)
 an_answer_to files (check file) there = an_answer IsCheckReportOn (λ inputs. a_check_report inputs.net inputs.configs) (inputs_of files file) there
 an_answer_to files (atoms file) there = an_answer IsAtomsReportOn (λ inputs. an_atoms_report inputs.net inputs.configs) (inputs_of files file) there
+an_answer_to files (synth file) there = an_answer IsSynthesisReportOn (λ inputs. a_synthesis_report inputs.net inputs.configs) (inputs_of files file) there
 an_answer_to files (show file) there = an_answer IsCanonical (λ net. (net_text net, status.Holds, (refl, refl))) (net_says files file) there
 
 pub an_outcome : (words : List (List ℕ)) (files : Files) → IsDefined words files → There (IsOutcome words files)

@@ -2,3 +2,5 @@ mod Existing
 mod OneReport
 mod Outcomes
 mod Reports
+mod SynthesisLaws
+mod Synthesising

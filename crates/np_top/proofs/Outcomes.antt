@@ -1,22 +1,23 @@
 -- The outcome of a run: that there is one at most, and how a run's text comes to be it.
-use Rattle.std.proofs.Common.{◌≡◌, ℕ, ◌<◌, ◌⊎◌, inl, inr, Bool, true, false, List, length, Option, Some, None, Result, Ok, Err, refl, arith, sym, ◌∙◌, ap, subst}
+use Rattle.std.proofs.Common.{◌≡◌, ℕ, ◌⊎◌, inl, inr, Bool, true, false, List, Option, Some, None, Result, Ok, Err, refl, sym, ◌∙◌, subst}
 use Rattle.std.specs.Prelude.{MatchOption, IsSome, if◌then◌else◌}
 use Rattle.np_outside.specs.Files.{Files}
 use Rattle.np_top.specs.declared.status.Status.{Status}
 use Rattle.np_top.specs.declared.status.Status.TheVariants.{Holds, Fails, Usage, Refused, ReadFault, WriteFault, Memory}
 use Rattle.np_net.specs.Plan.{Plan}
-use Rattle.np_top.specs.Commands.{Command, check, atoms, show, command_of}
-use Rattle.np_top.specs.Report.{usage_text, IsCheckReport, IsAtomsReport, verdicts_status}
+use Rattle.np_top.specs.Commands.{Command, check, atoms, synth, show, command_of}
+use Rattle.np_top.specs.Report.{usage_text, verdicts_status}
 use Rattle.np_goals.specs.declared.verdicts.Verdict.{Verdict}
 use Rattle.np_report.specs.Verdicts.{all_hold}
-use Rattle.np_load.specs.Inputs.{inputs_of}
+use Rattle.np_load.specs.Inputs.{Inputs, inputs_of}
 use Rattle.np_load.specs.Saying.{net_says}
-use Rattle.np_top.specs.Outcome.{IsAnswer, IsAnswerTo, IsCheckReportOn, IsAtomsReportOn, HasFiles, IsAccepted, AcceptsFiles, AreAccepted, IsOutcome, IsDefined, IsOneOutcome}
+use Rattle.np_top.specs.Outcome.{IsAnswer, IsAnswerTo, IsCheckReportOn, IsAtomsReportOn, IsSynthesisReportOn, HasFiles, IsAccepted, AcceptsFiles, AreAccepted, IsOutcome, IsDefined, IsMaximalOn, IsMaximalFor, IsMaximalOutcome, IsOneOutcome}
 use Rattle.np_top.specs.Show.{IsCanonical}
 use Rattle.np_top.specs.Status.{IsReport, IsSettled, IsUnlessFault}
 use Rattle.np_top.specs.Written.{Took, TookPrefix}
 use Rattle.np_top.proofs.Existing.{an_outcome}
 use Rattle.np_top.proofs.OneReport.{Same, one_check_report, one_atoms_report}
+use Rattle.np_top.proofs.SynthesisLaws.{one_synthesis_report, synthesis_reported, holds_is_maximal}
 
 one_canonical : (net : Plan) (s t : List ℕ) (x y : Status) → IsCanonical net s x → IsCanonical net t y → Same s x t y
 one_canonical net s t x y a b = (a.0 ∙ sym b.0, a.1 ∙ sym b.1)
@@ -32,6 +33,8 @@ one_answer_to files (check file) s t x y a b =
     one_answer IsCheckReportOn (λ inputs s t x y a b. one_check_report inputs.net inputs.configs s t x y a b) (inputs_of files file) s t x y a b
 one_answer_to files (atoms file) s t x y a b =
     one_answer IsAtomsReportOn (λ inputs s t x y a b. one_atoms_report inputs.net inputs.configs s t x y a b) (inputs_of files file) s t x y a b
+one_answer_to files (synth file) s t x y a b =
+    one_answer IsSynthesisReportOn (λ inputs s t x y a b. one_synthesis_report inputs.net inputs.configs s t x y a b) (inputs_of files file) s t x y a b
 one_answer_to files (show file) s t x y a b = one_answer IsCanonical one_canonical (net_says files file) s t x y a b
 
 -- two outcomes of the same words and files are the same text and status
@@ -50,6 +53,7 @@ defined_by Is (Some says) text status answer = refl
 has_files : (files : Files) (command : Command) (text : List ℕ) (status : Status) → IsAnswerTo files command text status → HasFiles files command
 has_files files (check file) text status answer = defined_by IsCheckReportOn (inputs_of files file) text status answer
 has_files files (atoms file) text status answer = defined_by IsAtomsReportOn (inputs_of files file) text status answer
+has_files files (synth file) text status answer = defined_by IsSynthesisReportOn (inputs_of files file) text status answer
 has_files files (show file) text status answer = defined_by IsCanonical (net_says files file) text status answer
 
 -- an outcome needs its files
@@ -131,6 +135,8 @@ reported files (check file) text status accepted is =
     answer_reported IsCheckReportOn (λ inputs text status is. subst IsReport (sym is.status_is) (verdicts_reported is.verdicts)) (inputs_of files file) text status accepted is
 reported files (atoms file) text status accepted is =
     answer_reported IsAtomsReportOn (λ inputs text status is. subst IsReport (sym is.status_is) tt) (inputs_of files file) text status accepted is
+reported files (synth file) text status accepted is =
+    answer_reported IsSynthesisReportOn (λ inputs text status is. synthesis_reported inputs.net inputs.configs text status is) (inputs_of files file) text status accepted is
 reported files (show file) text status accepted is =
     answer_reported IsCanonical (λ net text status is. subst IsReport (sym is.1) tt) (net_says files file) text status accepted is
 
@@ -142,6 +148,7 @@ accepted_there (Some says) accepted = refl
 pub accepted_files : (files : Files) (command : Command) → AcceptsFiles files command → HasFiles files command
 accepted_files files (check file) accepted = accepted_there (inputs_of files file) accepted
 accepted_files files (atoms file) accepted = accepted_there (inputs_of files file) accepted
+accepted_files files (synth file) accepted = accepted_there (inputs_of files file) accepted
 accepted_files files (show file) accepted = accepted_there (net_says files file) accepted
 
 -- the outcome of a command whose files are accepted
@@ -167,3 +174,28 @@ pub complete_outcome : (words : List (List ℕ)) (files : Files) (command : Comm
     IsComplete (IsAnswerTo files command) old new result → IsComplete (IsOutcome words files) old new result
 complete_outcome words files command old new result fits (inl w) = inl (w.0, (w.1.0, answer_outcome words files command w.1.0 result fits w.1.1, w.1.2))
 complete_outcome words files command old new result fits (inr w) = inr w
+
+-- ---- a synthesis with status 0
+
+-- what is to be written of a synthesis with this status is the text of a maximal posture
+maximal_on : (says : Option (Result Inputs (List ℕ))) (text : List ℕ) → IsAnswer IsSynthesisReportOn says text Holds → IsMaximalOn says text
+maximal_on None text answer = absurd answer
+maximal_on (Some (Err refusal)) text answer = let differ : Holds ≡ Refused = answer.1 in absurd (cc)
+maximal_on (Some (Ok inputs)) text answer = holds_is_maximal inputs.net inputs.configs text answer
+
+-- so it is for any command
+pub maximal_for : (files : Files) (command : Command) (text : List ℕ) → IsAnswerTo files command text Holds → IsMaximalFor files command text
+maximal_for files (check file) text answer = tt
+maximal_for files (atoms file) text answer = tt
+maximal_for files (synth file) text answer = maximal_on (inputs_of files file) text answer
+maximal_for files (show file) text answer = tt
+
+-- what is written whole with this status is such a text
+pub written_maximal : (files : Files) (command : Command) (result : Status) (old new : Option (List ℕ)) → result ≡ Holds →
+    (text : List ℕ) × IsAnswerTo files command text result × Took old new text → (text : List ℕ) × IsMaximalFor files command text × Took old new text
+written_maximal files command result old new is w = (w.0, maximal_for files command w.0 (subst (IsAnswerTo files command w.0) is w.1), w.2)
+
+-- what is maximal for a command is maximal for its words
+pub maximal_command : (words : List (List ℕ)) (files : Files) (command : Command) (old new : Option (List ℕ)) → Some command ≡ command_of words →
+    (text : List ℕ) × IsMaximalFor files command text × Took old new text → (text : List ℕ) × IsMaximalOutcome words files text × Took old new text
+maximal_command words files command old new fits w = (w.0, rw (← fits) w.1, w.2)

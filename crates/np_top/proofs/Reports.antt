@@ -1,16 +1,15 @@
 -- What the commands' steps give, as what their reports need.
-use Rattle.std.proofs.Common.{◌≡◌, ℕ, ◌<◌, ◌*◌, ◌+◌, Bool, true, false, List, [], ◌∷◌, length, get_or, map, refl, arith, sym, ◌∙◌, ap, subst}
+use Rattle.std.proofs.Common.{◌≡◌, ℕ, ◌<◌, ◌*◌, ◌+◌, Bool, false, List, [], ◌∷◌, length, get_or, map, arith, sym, ◌∙◌, ap, subst}
 use Rattle.std.specs.List.{All, AllByRecursion}
 use Rattle.std.proofs.lemmas.List.{get_or_default, get_or-map, length-map}
 use Rattle.std.proofs.lemmas.List.Elements.{All-from_recursion}
-use Rattle.np_space.specs.Header.{IsLeastOf}
 use Rattle.np_space.specs.declared.headers.Header.{Header}
 use Rattle.np_atomizer.specs.Atoms.{cut_sets, leasts_of}
 use Rattle.np_atomizer.specs.declared.atom_list.Atom.{Atom}
-use Rattle.np_net.specs.Path.{IsHop, Leads, IsPath, area_of}
+use Rattle.np_net.specs.Path.{Leads, area_of}
 use Rattle.np_net.specs.declared.filtering.Goal.{Goal}
 use Rattle.np_net.specs.declared.filtering.Interface.{Interface}
-use Rattle.np_flow.specs.Carrying.{AllCross, Carries, Reaches, IsFirstPath}
+use Rattle.np_flow.specs.Carrying.{AllCross, Carries, IsFirstPath}
 use Rattle.np_goals.specs.Cases.{goal_at}
 use Rattle.np_goals.specs.Verdicts.{Breaks, IsVerdict}
 use Rattle.np_goals.specs.declared.verdicts.Verdict.{Verdict}
@@ -80,10 +79,13 @@ hops_within : (interfaces : List Interface) (hops : List (ℕ × ℕ)) (a b : �
 hops_within interfaces [] a b leads = tt
 hops_within interfaces (hop ∷ hops) a b leads = ((leads.0.0, leads.0.1), hops_within interfaces hops (area_of interfaces hop.1) b leads.2)
 
+-- a first path has interfaces that there are
+pub first_within : (interfaces : List Interface) (lets : ℕ → Bool) (a : ℕ) (hops : List (ℕ × ℕ)) (b : ℕ) → IsFirstPath interfaces lets a hops b → All (λ hop. (hop.0 < length interfaces) × (hop.1 < length interfaces)) hops
+first_within interfaces lets a hops b is = All-from_recursion (λ hop. (hop.0 < length interfaces) × (hop.1 < length interfaces)) hops (hops_within interfaces hops a b is.carries.path.leads)
+
 verdict_within : (interfaces : List Interface) (lets : ℕ → Header → Bool) (goal : Goal) (v : Verdict) → IsVerdict interfaces lets goal v → HasInterfaces interfaces v
 verdict_within interfaces lets goal Holds right = tt
-verdict_within interfaces lets goal (Violated header path) right =
-    All-from_recursion (λ hop. (hop.0 < length interfaces) × (hop.1 < length interfaces)) path.hops (hops_within interfaces path.hops goal.from goal.to right.1.carries.path.leads)
+verdict_within interfaces lets goal (Violated header path) right = first_within interfaces (λ slot. lets slot header) goal.from path.hops goal.to right.1
 
 -- right verdicts name interfaces that there are
 pub verdicts_within : (interfaces : List Interface) (lets : ℕ → Header → Bool) (goals : List Goal) (vs : List Verdict) → length vs ≡ length goals →

@@ -8,12 +8,14 @@ use Rattle.np_top.specs.declared.commands.Command.TheVariants as variants
 pub data Command : Type 0 where
   check : List ℕ → Command
   atoms : List ℕ → Command
+  synth : List ℕ → Command
   show : List ℕ → Command
 
 -- a command as the program holds it
 abbrev pub command_in : declared.Command → Command
 command_in (variants.Check file) = check file.now
 command_in (variants.Atoms file) = atoms file.now
+command_in (variants.Synth file) = synth file.now
 command_in (variants.Show file) = show file.now
 
 -- the command of these two words
@@ -21,7 +23,8 @@ abbrev pub command_on : List ℕ → List ℕ → Option Command
 command_on word file =
     if bytes_eq word (codes "check") then Some (check file) else
     (if bytes_eq word (codes "atoms") then Some (atoms file) else
-    (if bytes_eq word (codes "show") then Some (show file) else None))
+    (if bytes_eq word (codes "synth") then Some (synth file) else
+    (if bytes_eq word (codes "show") then Some (show file) else None)))
 
 -- the command that the words are, and nothing where they fit no command
 abbrev pub command_of : List (List ℕ) → Option Command

@@ -1,5 +1,6 @@
 pub mod Show
 pub mod Report
+pub mod Synthesis
 pub mod Commands
 pub mod Outcome
 pub mod Status

@@ -7,9 +7,10 @@ use Rattle.np_load.specs.Inputs.{Inputs, inputs_of}
 use Rattle.np_load.specs.Saying.{net_says}
 use Rattle.np_top.specs.declared.status.Status.{Status}
 use Rattle.np_top.specs.declared.status.Status.TheVariants.{Usage, Refused}
-use Rattle.np_top.specs.Commands.{Command, check, atoms, show, command_of}
+use Rattle.np_top.specs.Commands.{Command, check, atoms, synth, show, command_of}
 use Rattle.np_top.specs.Report.{usage_text, IsCheckReport, IsAtomsReport}
 use Rattle.np_top.specs.Show.{IsCanonical}
+use Rattle.np_top.specs.Synthesis.{IsSynthesisReport, IsMaximalText}
 
 -- the report on the goals, of these inputs
 abbrev pub IsCheckReportOn : Inputs → List ℕ → Status → Type 0
@@ -18,6 +19,10 @@ IsCheckReportOn inputs text status = IsCheckReport inputs.net inputs.configs tex
 -- the report on the atoms, of these inputs
 abbrev pub IsAtomsReportOn : Inputs → List ℕ → Status → Type 0
 IsAtomsReportOn inputs text status = IsAtomsReport inputs.net inputs.configs text status
+
+-- the report on a synthesis, of these inputs
+abbrev pub IsSynthesisReportOn : Inputs → List ℕ → Status → Type 0
+IsSynthesisReportOn inputs text status = IsSynthesisReport inputs.net inputs.configs text status
 
 -- the text and the status that answer to what files say: the line of the first refusal, or what is to be written of what they declare
 abbrev pub IsAnswer : {X : Type 0} → (X → List ℕ → Status → Type 0) → Option (Result X (List ℕ)) → List ℕ → Status → Type 0
@@ -29,12 +34,14 @@ IsAnswer Is (Some (Ok x)) text status = Is x text status
 abbrev pub IsAnswerTo : Files → Command → List ℕ → Status → Type 0
 IsAnswerTo files (check file) text status = IsAnswer IsCheckReportOn (inputs_of files file) text status
 IsAnswerTo files (atoms file) text status = IsAnswer IsAtomsReportOn (inputs_of files file) text status
+IsAnswerTo files (synth file) text status = IsAnswer IsSynthesisReportOn (inputs_of files file) text status
 IsAnswerTo files (show file) text status = IsAnswer IsCanonical (net_says files file) text status
 
 -- each file that a command needs is there, up to the first one that is refused
 abbrev pub HasFiles : Files → Command → Type 0
 HasFiles files (check file) = IsSome (inputs_of files file)
 HasFiles files (atoms file) = IsSome (inputs_of files file)
+HasFiles files (synth file) = IsSome (inputs_of files file)
 HasFiles files (show file) = IsSome (net_says files file)
 
 -- The text and the status are the outcome of these words and files. There is none where a file that is needed isn't there.
@@ -56,11 +63,29 @@ IsAccepted (Some (Ok x)) = Unit {0}
 abbrev pub AcceptsFiles : Files → Command → Type 0
 AcceptsFiles files (check file) = IsAccepted (inputs_of files file)
 AcceptsFiles files (atoms file) = IsAccepted (inputs_of files file)
+AcceptsFiles files (synth file) = IsAccepted (inputs_of files file)
 AcceptsFiles files (show file) = IsAccepted (net_says files file)
 
 -- The words fit a command, and all its files are there, within their limit and in their grammars.
 abbrev pub AreAccepted : List (List ℕ) → Files → Type 0
 AreAccepted words files = MatchOption (command_of words) ⊥ (λ command. AcceptsFiles files command)
+
+-- what files say is a network and configurations of which the text is that of a maximal posture
+abbrev pub IsMaximalOn : Option (Result Inputs (List ℕ)) → List ℕ → Type 0
+IsMaximalOn None text = ⊥
+IsMaximalOn (Some (Err refusal)) text = ⊥
+IsMaximalOn (Some (Ok inputs)) text = IsMaximalText inputs.net inputs.configs text
+
+-- for a synthesis that ends with status 0: its text is that of a maximal posture
+abbrev pub IsMaximalFor : Files → Command → List ℕ → Type 0
+IsMaximalFor files (check file) text = Unit {0}
+IsMaximalFor files (atoms file) text = Unit {0}
+IsMaximalFor files (synth file) text = IsMaximalOn (inputs_of files file) text
+IsMaximalFor files (show file) text = Unit {0}
+
+-- Where the words are those of a synthesis, the text is that of a maximal posture.
+abbrev pub IsMaximalOutcome : List (List ℕ) → Files → List ℕ → Type 0
+IsMaximalOutcome words files text = MatchOption (command_of words) (Unit {0}) (λ command. IsMaximalFor files command text)
 
 -- There is one outcome at most, and there is one exactly where the files that it needs are there.
 pub record IsOneOutcome : Type 0 where

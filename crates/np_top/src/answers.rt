@@ -13,16 +13,20 @@ ghost use Rattle.np_goals.specs.Verdicts.{IsVerdict};
 ghost use Rattle.np_goals.specs.declared.verdicts.Verdict.TheVariants as verdict;
 ghost use Rattle.np_top.specs.declared.answers.Fault.TheVariants as faults;
 ghost use Rattle.np_top.specs.Commands.{command_in};
+ghost use Rattle.np_load.specs.declared.halt.Halt.{Halt as Ended};
 ghost use Rattle.np_load.specs.declared.halt.Halt.TheVariants as halts;
 ghost use Rattle.np_load.specs.Keeping.{KeepsShelf};
 ghost use Rattle.np_load.specs.Loading.{inputs_in};
 ghost use Rattle.np_top.specs.Replying.{Replies};
-ghost use Rattle.np_top.specs.Outcome.{IsAnswerTo, IsAtomsReportOn, IsCheckReportOn, HasFiles};
+ghost use Rattle.np_top.specs.Outcome.{IsAnswerTo, IsAtomsReportOn, IsCheckReportOn, IsSynthesisReportOn, HasFiles};
+ghost use Rattle.np_top.specs.Synthesis.{IsSynthesisReport};
 ghost use Rattle.np_top.specs.Show.{IsCanonical};
 ghost use Rattle.np_top.specs.Status.{IsSettled};
 
 use crate::commands::Command;
-use crate::report::{Answer, atoms_report, canonical, verdicts_report};
+use crate::report::{
+    Answer, atoms_report, canonical, chosen_report, unattainable_report, verdicts_report,
+};
 use crate::status::Status;
 use np_acl_read::Config;
 use np_atomizer::{Atoms, atomize};
@@ -32,6 +36,7 @@ use np_load::{Halt, Inputs, load_inputs, load_net};
 use np_net::Network;
 use np_outside::Shelf;
 use np_region::Regions;
+use np_synth::{SynthError, synthesise};
 use sqlite_items::Items;
 use std::alloc::{AllocError, Global};
 
@@ -99,6 +104,42 @@ fn atoms<G: Regions>(alloc: Global, store: &mut G, inputs: Inputs) -> Result<Ans
     Ok(atoms_report(alloc, &net, &applied, &atoms)?)
 }
 
+/// What is written of a synthesis for a network, by the configurations of its devices.
+fn synthesis<G: Regions>(
+    alloc: Global,
+    store: &mut G,
+    net: &Network,
+    configs: Vec<Config>,
+) -> Result<Answer, Halt>
+    ensures report { IfOk result (λ answer. IsSynthesisReport net.now configs.items answer.text answer.status) }
+    ensures memory { (halt : Ended) → IsErrOf result halt → halt ≡ halts.Memory }
+    ensures kept { KeepsRegions G.fits G.has_header store.old store.new }
+{
+    // What is known of every network says how many slots it has.
+    let _ = &net.free;
+    let applied = apply(alloc, net, configs)?;
+    let atoms = filter_atoms(alloc, store, net, &applied)?;
+    let case = case_of(alloc, store, net, &applied, &atoms)?;
+    match synthesise(alloc, net, &case) {
+        Ok(chosen) => Ok(chosen_report(alloc, net, case.leasts.as_slice(), &chosen)?),
+        Err(SynthError::Unattainable { goal, header, path }) => {
+            Ok(unattainable_report(alloc, net, goal, &header, &path)?)
+        }
+        Err(SynthError::Memory) => Err(Halt::Memory),
+    }
+}
+
+/// The answer to `synth`: the report on a synthesis.
+fn synth<G: Regions>(alloc: Global, store: &mut G, inputs: Inputs) -> Result<Answer, Halt>
+    ensures report { IfOk result (λ answer. IsSynthesisReportOn (inputs_in inputs) answer.text answer.status) }
+    ensures settled { IfOk result (λ answer. IsSettled answer.status × (answer.status ≢ Status.Usage)) }
+    ensures memory { (halt : Ended) → IsErrOf result halt → halt ≡ halts.Memory }
+    ensures kept { KeepsRegions G.fits G.has_header store.old store.new }
+{
+    let Inputs { net, configs } = inputs;
+    synthesis(alloc, store, &net, configs)
+}
+
 /// The answer to `show`: the network's canonical text.
 fn show(alloc: Global, net: Network) -> Result<Answer, AllocError>
     ensures report { IfOk result (λ answer. IsCanonical net answer.text answer.status) }
@@ -131,6 +172,10 @@ fn answer<G: Regions, S: Shelf>(
         Command::Atoms(file) => {
             let inputs = load_inputs(alloc, shelf, file)?;
             Ok(atoms(alloc, store, inputs)?)
+        }
+        Command::Synth(file) => {
+            let inputs = load_inputs(alloc, shelf, file)?;
+            synth(alloc, store, inputs)
         }
         Command::Show(file) => {
             let net = load_net(alloc, shelf, file)?;

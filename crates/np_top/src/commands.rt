@@ -14,6 +14,9 @@ pub enum Command<'a> {
     /// `atoms NET`
     Atoms(&'a [u8]),
 
+    /// `synth NET`
+    Synth(&'a [u8]),
+
     /// `show NET`
     Show(&'a [u8]),
 }
@@ -25,6 +28,7 @@ pub fn parse(words: &[String]) -> Option<Command<'_>>
     match words {
         [word, file] if word.as_str() == "check" => Some(Command::Check(file.as_bytes())),
         [word, file] if word.as_str() == "atoms" => Some(Command::Atoms(file.as_bytes())),
+        [word, file] if word.as_str() == "synth" => Some(Command::Synth(file.as_bytes())),
         [word, file] if word.as_str() == "show" => Some(Command::Show(file.as_bytes())),
         _ => None,
     }

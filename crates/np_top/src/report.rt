@@ -7,15 +7,18 @@ ghost use Rattle.np_net_read.specs.Canonical.{net_text};
 ghost use Rattle.np_report.specs.Atoms.{atoms_text};
 ghost use Rattle.np_report.specs.Verdicts.{HasInterfaces, is_holding, verdicts_text};
 ghost use Rattle.np_report.specs.Verdicts as verdict_texts;
+ghost use Rattle.np_report.specs.Synthesis.{AreInOrder, HopsWithin, chosen_text, unattainable_text};
 ghost use Rattle.np_top.specs.Report.{verdicts_status};
 
 use crate::status::Status;
 use np_atomizer::Atoms;
 use np_cut::Applied;
 use np_goals::Verdict;
-use np_net::Network;
+use np_net::{Network, Path};
 use np_net_read::put_net;
-use np_report::{put_atoms, put_verdicts};
+use np_report::{put_atoms, put_chosen, put_unattainable, put_verdicts};
+use np_space::Header;
+use np_synth::Chosen;
 use sqlite_items::Items;
 use std::alloc::{AllocError, Global};
 
@@ -46,7 +49,6 @@ pub fn atoms_report<R: Drop>(
     applied: &Applied,
     atoms: &Atoms<R>,
 ) -> Result<Answer, AllocError>
-    requires devices { All (λ name. name.0 < length net.now.devices) applied.now.names }
     requires sets { (k : ℕ) → k < length (sets_in atoms.now) → length (slice_index_or (sets_in atoms.now) k []) ≡ length (atoms_in atoms.now) }
     ensures text { IfOk result (λ answer. answer.text ≡ atoms_text net.now applied.now.names (sets_in atoms.now) (leasts_of (atoms_in atoms.now))) }
     ensures status { IfOk result (λ answer. answer.status ≡ Status.Holds) }
@@ -95,4 +97,45 @@ pub fn verdicts_report(
         Status::Fails
     };
     Ok(Answer { text, status })
+}
+
+/// The report on a chosen posture.
+pub fn chosen_report(
+    alloc: Global,
+    net: &Network,
+    leasts: &[Header],
+    chosen: &Chosen,
+) -> Result<Answer, AllocError>
+    requires sets { length chosen.now.posture.slots ≡ length net.now.free }
+    requires order { AreInOrder net.now.interfaces (length leasts.now) (length net.now.goals) chosen.now.dropped }
+    ensures text { IfOk result (λ answer. answer.text ≡ chosen_text net.now leasts.now chosen.now.posture.slots chosen.now.dropped) }
+    ensures status { IfOk result (λ answer. answer.status ≡ Status.Holds) }
+{
+    let mut text = Vec::new(alloc);
+    put_chosen(alloc, &mut text, net, leasts, chosen)?;
+    Ok(Answer {
+        text: Items::from_vec(text),
+        status: Status::Holds,
+    })
+}
+
+/// The report on goals that can't be attained.
+pub fn unattainable_report(
+    alloc: Global,
+    net: &Network,
+    goal: usize,
+    header: &Header,
+    path: &Path,
+) -> Result<Answer, AllocError>
+    requires goal { goal < length net.now.goals }
+    requires hops { HopsWithin net.now.interfaces path.now.hops }
+    ensures text { IfOk result (λ answer. answer.text ≡ unattainable_text net.now goal header.now path.now.hops) }
+    ensures status { IfOk result (λ answer. answer.status ≡ Status.Fails) }
+{
+    let mut text = Vec::new(alloc);
+    put_unattainable(alloc, &mut text, net, goal, header, path)?;
+    Ok(Answer {
+        text: Items::from_vec(text),
+        status: Status::Fails,
+    })
 }

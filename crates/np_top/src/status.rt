@@ -3,10 +3,11 @@
 /// How a run ended. Its number is the program's exit status.
 #[derive(Clone, Copy, Debug, PartialEq, Eq)]
 pub enum Status {
-    /// 0: the report on the goals is written, and all hold; or that on the atoms is, or a network's canonical text.
+    /// 0: the report on the goals is written, and all hold; or that on the atoms, on a synthesised posture or a network's
+    /// canonical text.
     Holds,
 
-    /// 1: the report is written, and a goal is violated.
+    /// 1: the report on the goals is written, and one is violated; or that on goals that can't be attained.
     Fails,
 
     /// 2: the words fit no command; `usage` is written.

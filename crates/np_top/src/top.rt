@@ -6,7 +6,7 @@ ghost use Rattle.np_outside.specs.Files.{Files};
 ghost use Rattle.np_load.specs.Keeping.{KeepsShelf};
 ghost use Rattle.np_region.specs.Keeping.{KeepsRegions};
 ghost use Rattle.np_top.specs.Commands.{command_in, command_of};
-ghost use Rattle.np_top.specs.Outcome.{texts_of, AcceptsFiles, AreAccepted, HasFiles, IsAnswerTo, IsOutcome, IsDefined};
+ghost use Rattle.np_top.specs.Outcome.{texts_of, AcceptsFiles, AreAccepted, HasFiles, IsAnswerTo, IsMaximalOutcome, IsMaximalFor, IsOutcome, IsDefined};
 ghost use Rattle.np_top.specs.Report.{usage_text};
 ghost use Rattle.np_top.specs.Status.{IsReport, IsSettled, IsUnlessFault};
 ghost use Rattle.np_top.specs.Written.{Took, TookPrefix};
@@ -62,6 +62,9 @@ fn run_command<G: Regions, S: Shelf, K: Sink>(
     ensures complete { (files : Files) → S.files shelf.old ≡ Some files → AcceptsFiles files (command_in command.entry) →
         (Rose (S.breaks shelf.old) (S.breaks shelf.new) → ⊥) → (Rose (K.faults sink.old) (K.faults sink.new) → ⊥) →
         IsReport result × ((text : List ℕ) × IsAnswerTo files (command_in command.entry) text result × Took (K.taken sink.old) (K.taken sink.new) text) ⊎ (result ≡ Status.Memory) }
+
+    ensures maximal { result ≡ Status.Holds → (files : Files) → S.files shelf.old ≡ Some files →
+        (text : List ℕ) × IsMaximalFor files (command_in command.entry) text × Took (K.taken sink.old) (K.taken sink.new) text }
 
     ensures shelf { KeepsShelf S.files S.cap S.faults S.breaks shelf.old shelf.new }
     ensures faults_cap { K.cap sink.new ≡ K.cap sink.old }
@@ -126,6 +129,11 @@ pub fn run_in<R: Threads + Sync, G: Regions, S: Shelf, K: Sink>(
         (Rose (S.breaks shelf.old) (S.breaks shelf.new) → ⊥) → (Rose (K.faults sink.old) (K.faults sink.new) → ⊥) →
         IsReport result × ((text : List ℕ) × IsOutcome (texts_of words.now) files text result × Took (K.taken sink.old) (K.taken sink.new) text) ⊎ (result ≡ Status.Memory) }
 
+    // Where a synthesis ends with status 0, what was written is the text of a maximal posture: no valid header breaks a goal in
+    // it, and letting one valid header cross a free slot that doesn't let it cross breaks one.
+    ensures maximal { result ≡ Status.Holds → (files : Files) → S.files shelf.old ≡ Some files →
+        (text : List ℕ) × IsMaximalOutcome (texts_of words.now) files text × Took (K.taken sink.old) (K.taken sink.new) text }
+
     // What the shelf and the sink tell stays, and their counts do not fall.
     ensures files { S.files shelf.new ≡ S.files shelf.old }
     ensures breaks_cap { S.cap shelf.new ≡ S.cap shelf.old }
@@ -149,6 +157,8 @@ pub fn run_in<R: Threads + Sync, G: Regions, S: Shelf, K: Sink>(
 ///
 /// `check NET` reads the file NET and then the configuration of each of its devices, and writes a verdict on each goal.
 /// `atoms NET` reads the same files, and writes the atoms of the network's filter cuts, with what each cut says of each.
+/// `synth NET` reads the same files, and writes a maximal posture that meets the goals, with what its free slots drop and
+/// why; or the first goal that is broken even with all free slots shut.
 /// `show NET` reads the file NET, and writes the canonical text of the network that it declares.
 pub fn run<R: Threads + Sync, S: Shelf, K: Sink>(
     rt: &R,
@@ -194,6 +204,11 @@ pub fn run<R: Threads + Sync, S: Shelf, K: Sink>(
     ensures complete { (files : Files) → S.files shelf.old ≡ Some files → AreAccepted (texts_of words.now) files →
         (Rose (S.breaks shelf.old) (S.breaks shelf.new) → ⊥) → (Rose (K.faults sink.old) (K.faults sink.new) → ⊥) →
         IsReport result × ((text : List ℕ) × IsOutcome (texts_of words.now) files text result × Took (K.taken sink.old) (K.taken sink.new) text) ⊎ (result ≡ Status.Memory) }
+
+    // Where a synthesis ends with status 0, what was written is the text of a maximal posture: no valid header breaks a goal in
+    // it, and letting one valid header cross a free slot that doesn't let it cross breaks one.
+    ensures maximal { result ≡ Status.Holds → (files : Files) → S.files shelf.old ≡ Some files →
+        (text : List ℕ) × IsMaximalOutcome (texts_of words.now) files text × Took (K.taken sink.old) (K.taken sink.new) text }
 
     // What the shelf and the sink tell stays, and their counts do not fall.
     ensures files { S.files shelf.new ≡ S.files shelf.old }

@@ -1,6 +1,8 @@
+use Rattle.std.proofs.Common.{sym, subst}
 use Rattle.np_top.specs.Commands.{command_in}
 use Rattle.np_top.specs.Outcome.{IsAnswerTo}
-use Rattle.np_top.proofs.Outcomes.{one_answer_to, written_whole, written_part, written_only, written_complete, reported, accepted_files}
+use Rattle.np_top.specs.Status.{IsSettled}
+use Rattle.np_top.proofs.Outcomes.{one_answer_to, written_whole, written_part, written_only, written_complete, written_maximal, reported}
 use Rattle.np_top.proofs.top.run_command.Goals as goal
 
 pub returns-in-Ok-clause-outcome : goal.returns-in-Ok-clause-outcome
@@ -23,3 +25,9 @@ returns-in-Ok-clause-complete g c = λ files told accepted unbroken no_fault.
     let answer = c.in-Ok.ensures.ok files told in
     written_complete (IsAnswerTo files (command_in c.args.command)) c.in-Ok.answer.text c.in-Ok.answer.status c.write.result _ _ _
     answer (reported files (command_in c.args.command) c.in-Ok.answer.text c.in-Ok.answer.status accepted answer) no_fault (rw c.as_slice.ensures at c.write.ensures.written)
+
+pub returns-in-Ok-clause-maximal : goal.returns-in-Ok-clause-maximal
+returns-in-Ok-clause-maximal g c = λ is files told.
+    written_maximal files (command_in c.args.command) c.write.result _ _ is
+    (written_whole (IsAnswerTo files (command_in c.args.command)) c.in-Ok.answer.text c.in-Ok.answer.status c.write.result _ _ _
+    (c.in-Ok.ensures.ok files told) (rw c.as_slice.ensures at c.write.ensures.written) (subst IsSettled (sym is) tt))

@@ -8,13 +8,14 @@ use Rattle.std.proofs.lemmas.List.FromFn.{length-map-range_with_len}
 use Rattle.np_net.specs.Network.{IsNetwork, AreTables, rule_count}
 use Rattle.np_net.specs.Limits.{depth_limit}
 use Rattle.np_net.specs.declared.filtering.Interface.{Interface}
+use Rattle.np_net.specs.declared.associations.Sa.{Sa}
 use Rattle.np_net_read.specs.declared.declared.Declared.{Declared}
 use Rattle.np_net_read.specs.Declaring.{free_flags, network_of, no_rules, depth_or_default}
 use Rattle.np_net_read.specs.Fitting.{IsSound}
 
-tables_without_rules : (interfaces : List Interface) → AreTables [] interfaces (map (λ interface. no_rules) interfaces)
-tables_without_rules [] = tt
-tables_without_rules (i ∷ interfaces) = (record { pops = tt; once = tt; ins = tt; outs = tt }, tables_without_rules interfaces)
+tables_without_rules : (sas : List Sa) (interfaces : List Interface) → AreTables sas interfaces (map (λ interface. no_rules) interfaces)
+tables_without_rules sas [] = tt
+tables_without_rules sas (i ∷ interfaces) = (record { pops = tt; once = tt; ins = tt; outs = tt }, tables_without_rules sas interfaces)
 
 no_rule : (interfaces : List Interface) → sum (map rule_count (map (λ interface. no_rules) interfaces)) ≡ 0
 no_rule [] = refl
@@ -54,24 +55,24 @@ sound_network d sound = record {
     devices = sound.device_room;
     interfaces = sound.interface_room;
     goals = sound.goal_room;
-    sas = omega arith;
+    sas = sound.sa_room;
     rules = rw (no_rule d.interfaces) (omega arith);
-    ipgoals = omega arith;
+    ipgoals = sound.ipgoal_room;
   };
   names = record {
     areas = sound.area_names;
     devices = sound.device_names;
     interfaces = sound.interface_names;
-    sas = tt;
+    sas = sound.sa_names;
   };
   areas = sound.areas;
   devices = sound.devices;
   interfaces = sound.interfaces;
   free = length-map-range_with_len (λ slot. list_any (nat_eq slot) d.freed) 0 (2 * length d.interfaces);
   goals = sound.goals;
-  sas = tt;
-  tables = tables_without_rules d.interfaces;
-  ipgoals = tt;
+  sas = sound.sas;
+  tables = tables_without_rules d.sas d.interfaces;
+  ipgoals = sound.ipgoals;
   shallow = shallow d.depth sound.depth;
   deep = deep d.depth sound.depth;
 }

@@ -77,7 +77,7 @@ devices_read declared (device ∷ devices) new formed room =
 
 -- what is declared after the areas and devices of the network
 abbrev pub stage : Plan → List Interface → List ℕ → List Goal → Declared
-stage net interfaces freed goals = record { areas = net.areas; devices = net.devices; interfaces = interfaces; freed = freed; goals = goals; depth = Some net.depth }
+stage net interfaces freed goals = record { areas = net.areas; devices = net.devices; interfaces = interfaces; freed = freed; goals = goals; sas = []; ipgoals = []; depth = Some net.depth }
 
 module _ (net : Plan) (is : IsNetwork net) where
   pub area_named : (n : ℕ) → n < length net.areas → named (area_names net.areas) (area_name net n) ≡ Ok n

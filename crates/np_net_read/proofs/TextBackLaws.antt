@@ -57,7 +57,7 @@ module _ (net : Plan) (is : IsNetwork net) where
   whole = stage net net.interfaces (free_slots 0 net.free) net.goals
 
   begun : Declared
-  begun = record { areas = []; devices = []; interfaces = []; freed = []; goals = []; depth = Some net.depth }
+  begun = record { areas = []; devices = []; interfaces = []; freed = []; goals = []; sas = []; ipgoals = []; depth = Some net.depth }
 
   filtering_read : ReadsInto (declared_by_network []) (filtering_lines net) whole
   unfolding declared_by_network whole begun

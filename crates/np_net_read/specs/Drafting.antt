@@ -1,7 +1,7 @@
 -- What is kept while a text is read: what its lines declare so far, and the names for looking them up.
 use Rattle.std.specs.Prelude.{◌≡◌}
 use Rattle.np_net.specs.Sources.{source_list}
-use Rattle.np_net.specs.Plan.{area_names, device_names, interface_names}
+use Rattle.np_net.specs.Plan.{area_names, device_names, interface_names, sa_names}
 use Rattle.np_net_read.specs.declared.draft.Draft.{Draft}
 use Rattle.np_net_read.specs.Fitting.{IsSound}
 
@@ -12,4 +12,5 @@ pub record IsDraft (draft : Draft) : Type 0 where
   pub devices : draft.device_names ≡ device_names draft.declared.devices
   pub places : draft.places ≡ interface_names draft.declared.interfaces
   pub freed : draft.freed.keys ≡ draft.declared.freed
+  pub sas : draft.sa_names ≡ sa_names draft.declared.sas
   pub sound : IsSound draft.declared

@@ -4,12 +4,14 @@ use Rattle.std.specs.List.{AllByRecursion, list_any}
 use Rattle.std.specs.Str.{bytes_eq}
 use Rattle.np_net.specs.Distinct.{AreDistinct, same_place}
 use Rattle.np_net.specs.Limits.{declaration_limit, interface_limit, depth_limit}
-use Rattle.np_net.specs.Network.{IsArea, IsDevice, IsInterface, IsGoal}
-use Rattle.np_net.specs.Plan.{area_names, device_names, interface_names}
+use Rattle.np_net.specs.Network.{IsArea, IsDevice, IsInterface, IsGoal, IsSa, IsIpGoal}
+use Rattle.np_net.specs.Plan.{area_names, device_names, interface_names, sa_names}
 use Rattle.np_net.specs.declared.filtering.Area.{Area}
 use Rattle.np_net.specs.declared.filtering.Device.{Device}
 use Rattle.np_net.specs.declared.filtering.Interface.{Interface}
 use Rattle.np_net.specs.declared.filtering.Goal.{Goal}
+use Rattle.np_net.specs.declared.associations.Sa.{Sa}
+use Rattle.np_net.specs.declared.associations.IpGoal.{IpGoal}
 use Rattle.np_net_read.specs.declared.declared.Declared.{Declared}
 use Rattle.np_net_read.specs.declared.statement.Statement.{Statement}
 use Rattle.np_net_read.specs.declared.statement.Statement.TheVariants as statement
@@ -48,6 +50,17 @@ pub record IsNewGoal (declared : Declared) (goal : Goal) : Type 0 where
   pub formed : IsGoal (length declared.areas) goal
   pub room : length declared.goals < declaration_limit
 
+-- an association that may be declared
+pub record IsNewSa (declared : Declared) (sa : Sa) : Type 0 where
+  pub formed : IsSa (length declared.devices) sa
+  pub new : list_any (bytes_eq sa.name) (sa_names declared.sas) ≡ false
+  pub room : length declared.sas < declaration_limit
+
+-- an IPsec goal that may be declared
+pub record IsNewIpGoal (declared : Declared) (goal : IpGoal) : Type 0 where
+  pub formed : IsIpGoal (length declared.areas) goal
+  pub room : length declared.ipgoals < declaration_limit
+
 -- a statement that may stand after what is declared
 abbrev pub Fits : Declared → Statement → Type 0
 Fits declared (statement.Depth depth) = IsNewDepth declared depth
@@ -56,6 +69,8 @@ Fits declared (statement.Device device) = IsNewDevice declared device
 Fits declared (statement.Interface interface) = IsNewInterface declared interface
 Fits declared (statement.Free slot) = IsNewSlot declared slot
 Fits declared (statement.Goal goal) = IsNewGoal declared goal
+Fits declared (statement.Sa sa) = IsNewSa declared sa
+Fits declared (statement.IpGoal goal) = IsNewIpGoal declared goal
 
 -- what is declared, with one more statement
 abbrev pub added : Declared → Statement → Declared
@@ -65,6 +80,8 @@ added declared (statement.Device device) = record declared { devices = declared.
 added declared (statement.Interface interface) = record declared { interfaces = declared.interfaces ++ interface ∷ [] }
 added declared (statement.Free slot) = record declared { freed = declared.freed ++ slot ∷ [] }
 added declared (statement.Goal goal) = record declared { goals = declared.goals ++ goal ∷ [] }
+added declared (statement.Sa sa) = record declared { sas = declared.sas ++ sa ∷ [] }
+added declared (statement.IpGoal goal) = record declared { ipgoals = declared.ipgoals ++ goal ∷ [] }
 
 -- declarations that make a network
 pub record IsSound (declared : Declared) : Type 0 where
@@ -72,12 +89,17 @@ pub record IsSound (declared : Declared) : Type 0 where
   pub device_room : length declared.devices ≤ declaration_limit
   pub interface_room : length declared.interfaces ≤ interface_limit
   pub goal_room : length declared.goals ≤ declaration_limit
+  pub sa_room : length declared.sas ≤ declaration_limit
+  pub ipgoal_room : length declared.ipgoals ≤ declaration_limit
   pub area_names : AreDistinct bytes_eq (area_names declared.areas)
   pub device_names : AreDistinct bytes_eq (device_names declared.devices)
   pub interface_names : AreDistinct same_place (interface_names declared.interfaces)
+  pub sa_names : AreDistinct bytes_eq (sa_names declared.sas)
   pub areas : AllByRecursion (λ area. IsArea area) declared.areas
   pub devices : AllByRecursion (λ device. IsDevice device) declared.devices
   pub interfaces : AllByRecursion (λ interface. IsInterface (length declared.devices) (length declared.areas) interface) declared.interfaces
   pub freed : AllByRecursion (λ slot. slot < 2 * length declared.interfaces) declared.freed
   pub goals : AllByRecursion (λ goal. IsGoal (length declared.areas) goal) declared.goals
+  pub sas : AllByRecursion (λ sa. IsSa (length declared.devices) sa) declared.sas
+  pub ipgoals : AllByRecursion (λ goal. IsIpGoal (length declared.areas) goal) declared.ipgoals
   pub depth : IfSome declared.depth (λ depth. (1 ≤ depth) × (depth ≤ depth_limit))

@@ -5,7 +5,7 @@ use Rattle.std.specs.Option.{ok_or}
 use Rattle.std.specs.Str.{bytes_eq}
 use Rattle.np_text.specs.Numbers.{number_of}
 use Rattle.np_text.specs.Words.{words_of}
-use Rattle.np_lines.specs.Judging.{Judged, ◌>>=◌, word_in, ended, within}
+use Rattle.np_lines.specs.Judging.{Judged, Read, ◌>>=◌, word_in, ended, within}
 use Rattle.np_lines.specs.Skipping.{is_text_byte}
 use Rattle.np_lines.specs.Skipping as skipping
 use Rattle.np_space.specs.declared.patterns.Ternary.{Ternary}
@@ -21,7 +21,11 @@ use Rattle.np_net.specs.declared.pred_faults.PredWhy.{PredWhy}
 use Rattle.np_net.specs.declared.pred_faults.PredWhy.TheVariants as unread
 use Rattle.np_net.specs.Limits.{declaration_limit, interface_limit, depth_limit}
 use Rattle.np_net.specs.Names.{is_name, is_interface_name}
-use Rattle.np_net.specs.Plan.{area_names, device_names, interface_names}
+use Rattle.np_net.specs.Plan.{area_names, device_names, interface_names, sa_names}
+use Rattle.np_net.specs.declared.associations.Kind.{Kind}
+use Rattle.np_net.specs.declared.associations.Kind.TheVariants as kind
+use Rattle.np_net.specs.declared.associations.IpGoal.{IpGoal}
+use Rattle.np_net.specs.declared.associations.IpGoal.TheVariants as ipgoal
 use Rattle.np_net_read.specs.declared.declared.Declared.{Declared}
 use Rattle.np_net_read.specs.declared.statement.Statement.{Statement}
 use Rattle.np_net_read.specs.declared.statement.Statement.TheVariants as statement
@@ -79,6 +83,24 @@ abbrev pub only_of : List ℕ → Judged NetWhy Bool
 only_of word =
     if bytes_eq word (codes "never") then Ok false else
     (if bytes_eq word (codes "only") then Ok true else Err why.BadShape)
+
+-- the kind of an association
+abbrev pub kind_of : List ℕ → Judged NetWhy Kind
+kind_of word =
+    if bytes_eq word (codes "esp") then Ok kind.Esp else
+    (if bytes_eq word (codes "esp-enc") then Ok kind.EspEnc else
+    (if bytes_eq word (codes "esp-null") then Ok kind.EspNull else
+    (if bytes_eq word (codes "ah") then Ok kind.Ah else Err why.BadShape)))
+
+-- ---- what the next words name
+
+-- the area that the next word names
+abbrev pub area_next : Declared → List (List ℕ) → Read NetWhy ℕ
+area_next declared words = word_in why.BadShape words >>= λ area. named (area_names declared.areas) area.0 >>= λ a. Ok (a, area.1)
+
+-- the device that the next word names
+abbrev pub device_next : Declared → List (List ℕ) → Read NetWhy ℕ
+device_next declared words = word_in why.BadShape words >>= λ device. named (device_names declared.devices) device.0 >>= λ d. Ok (d, device.1)
 
 -- ---- the words at the end of a statement
 
@@ -163,17 +185,49 @@ goal_says declared words =
     pred_in declared keyword.1 >>= λ p.
     within why.TooMany declaration_limit (length declared.goals) (statement.Goal (record { from = f; to = t; only = o; pred = p }))
 
+-- ---- statements of the IPsec part, each without its first word
+
+-- `sa NAME KIND DEV DEV`
+unfoldable pub sa_says : Declared → List (List ℕ) → Judged NetWhy Statement
+sa_says declared words =
+    word_in why.BadShape words >>= λ name. new_name (sa_names declared.sas) name.0 >>= λ n.
+    word_in why.BadShape name.1 >>= λ word. kind_of word.0 >>= λ k.
+    device_next declared word.1 >>= λ from. device_next declared from.1 >>= λ to. ended why.BadShape to.1 to.0 >>= λ t.
+    within why.TooMany declaration_limit (length declared.sas) (statement.Sa (record { name = n; kind = k; from = from.0; to = t }))
+
+-- an IPsec goal, where there is room for it
+abbrev pub ipgoal_says : Declared → IpGoal → Judged NetWhy Statement
+ipgoal_says declared goal = within why.TooMany declaration_limit (length declared.ipgoals) (statement.IpGoal goal)
+
+-- `auth AREA AREA PRED`
+unfoldable pub auth_says : Declared → List (List ℕ) → Judged NetWhy Statement
+auth_says declared words =
+    area_next declared words >>= λ from. area_next declared from.1 >>= λ at. pred_in declared at.1 >>= λ p.
+    ipgoal_says declared (ipgoal.Auth from.0 at.0 p)
+
+-- `conf AREA PRED`
+unfoldable pub conf_says : Declared → List (List ℕ) → Judged NetWhy Statement
+conf_says declared words =
+    area_next declared words >>= λ from. pred_in declared from.1 >>= λ p. ipgoal_says declared (ipgoal.Conf from.0 p)
+
 -- ---- lines
 
 -- a statement's first word that isn't read yet
 abbrev pub is_unbuilt : List ℕ → Bool
 is_unbuilt word =
-    bytes_eq word (codes "sa") || bytes_eq word (codes "pop") || bytes_eq word (codes "inrule") || bytes_eq word (codes "outrule")
-    || bytes_eq word (codes "auth") || bytes_eq word (codes "conf")
+    bytes_eq word (codes "pop") || bytes_eq word (codes "inrule") || bytes_eq word (codes "outrule")
 
 -- the fault of a first word that begins no statement
 abbrev pub why_no_statement : List ℕ → NetWhy
 why_no_statement word = if is_unbuilt word then why.NotBuilt else why.UnknownStatement
+
+-- a statement of the IPsec part, by its first word and the others
+abbrev pub ipsec_says : Declared → List ℕ → List (List ℕ) → Judged NetWhy Statement
+ipsec_says declared word words =
+    if bytes_eq word (codes "sa") then sa_says declared words else
+    (if bytes_eq word (codes "auth") then auth_says declared words else
+    (if bytes_eq word (codes "conf") then conf_says declared words else
+    Err (why_no_statement word)))
 
 -- a statement, by its first word and the others
 abbrev pub statement_says : Declared → List ℕ → List (List ℕ) → Judged NetWhy Statement
@@ -184,7 +238,7 @@ statement_says declared word words =
     (if bytes_eq word (codes "interface") then interface_says declared words else
     (if bytes_eq word (codes "free") then free_says declared words else
     (if bytes_eq word (codes "goal") then goal_says declared words else
-    Err (why_no_statement word))))))
+    ipsec_says declared word words)))))
 
 -- a line without words and a comment, which begins with `#`, declare nothing; each other line is one statement
 abbrev pub words_say : Declared → List (List ℕ) → Judged NetWhy (Option Statement)

@@ -1,6 +1,6 @@
 //! What the lines of a network's text declare.
 
-use np_net::{Area, Device, Goal, Interface};
+use np_net::{Area, Device, Goal, Interface, IpGoal, Sa};
 use sqlite_items::Items;
 
 /// What lines declare, each list in their order.
@@ -12,5 +12,7 @@ pub struct Declared {
     /// The free slots.
     pub freed: Items<u16>,
     pub goals: Items<Goal>,
+    pub sas: Items<Sa>,
+    pub ipgoals: Items<IpGoal>,
     pub depth: Option<u8>,
 }

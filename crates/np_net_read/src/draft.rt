@@ -4,14 +4,14 @@ ghost use Rattle.std.specs.Prelude.{◌≡◌, ◌<◌, [], false, length, nat_e
 ghost use Rattle.std.specs.List.{list_any};
 ghost use Rattle.std.specs.Str.{bytes_eq};
 ghost use Rattle.np_net_read.specs.Drafting.{IsDraft};
-ghost use Rattle.np_net_read.specs.Fitting.{Fits, IsNewArea, IsNewDevice, IsNewInterface, IsNewSlot, added};
+ghost use Rattle.np_net_read.specs.Fitting.{Fits, IsNewArea, IsNewDevice, IsNewInterface, IsNewSa, IsNewSlot, added};
 ghost use Rattle.np_net_read.specs.Declaring.{declared_by_network};
 ghost use Rattle.np_lines.specs.Answers.{Gives};
 ghost use Rattle.np_net_read.specs.Judging as judging;
 ghost use Rattle.np_net_read.specs.declared.statement.Statement.TheVariants as says;
 ghost use Rattle.np_net.specs.Distinct.{same_place};
 ghost use Rattle.np_net.specs.Names as form;
-ghost use Rattle.np_net.specs.Plan.{area_names, device_names, interface_names};
+ghost use Rattle.np_net.specs.Plan.{area_names, device_names, interface_names, sa_names};
 
 use crate::declared::Declared;
 use crate::fault::NetWhy;
@@ -19,7 +19,7 @@ use crate::statement::Statement;
 use crate::tokens::{interface_named, named, new_interface_name, new_name};
 use indexmap::IndexSet;
 use np_lines::LineError;
-use np_net::{Area, Device, Interface, Names, Places};
+use np_net::{Area, Device, Interface, Names, Places, Sa};
 use np_pred::Areas;
 use np_text::Name;
 use sqlite_items::Items;
@@ -36,6 +36,7 @@ pub struct Draft {
     pub places: Places,
     /// The free slots.
     pub freed: IndexSet<u16>,
+    pub sa_names: Names,
 }
 
 /// Nothing is declared.
@@ -49,6 +50,8 @@ fn nothing_declared(alloc: Global) -> Declared
         interfaces: Items::new(alloc),
         freed: Items::new(alloc),
         goals: Items::new(alloc),
+        sas: Items::new(alloc),
+        ipgoals: Items::new(alloc),
         depth: None,
     }
 }
@@ -66,6 +69,7 @@ impl Draft {
             device_names: Names::new(alloc),
             places: Places::new(alloc),
             freed: IndexSet::new(alloc),
+            sa_names: Names::new(alloc),
         }
     }
 
@@ -116,6 +120,17 @@ impl Draft {
         Ok(())
     }
 
+    fn add_sa(&mut self, alloc: Global, sa: Sa) -> Result<(), AllocError>
+        requires draft { IsDraft self.old }
+        requires fits { IsNewSa self.old.declared sa }
+        ensures declared { OnOk result (self.new.declared ≡ added self.old.declared (says.Sa sa)) }
+        ensures draft { OnOk result (IsDraft self.new) }
+    {
+        self.sa_names.add(alloc, sa.name.bytes())?;
+        self.declared.sas.push(sa)?;
+        Ok(())
+    }
+
     /// Adds what a statement declares.
     pub fn add(&mut self, alloc: Global, statement: Statement) -> Result<(), AllocError>
         requires draft { IsDraft self.old }
@@ -130,6 +145,8 @@ impl Draft {
             Statement::Interface(interface) => self.add_interface(alloc, interface)?,
             Statement::Free(slot) => self.add_slot(slot)?,
             Statement::Goal(goal) => self.declared.goals.push(goal)?,
+            Statement::Sa(sa) => self.add_sa(alloc, sa)?,
+            Statement::IpGoal(goal) => self.declared.ipgoals.push(goal)?,
         }
         Ok(())
     }
@@ -190,6 +207,16 @@ impl Draft {
         ensures new { IfOk result (λ name. list_any (bytes_eq name) (device_names self.now.declared.devices) ≡ false) }
     {
         new_name(alloc, &self.device_names, word)
+    }
+
+    /// The name of a new association.
+    pub fn new_sa(&self, alloc: Global, word: &[u8]) -> Result<Name, LineError<NetWhy>>
+        requires { IsDraft self.now }
+        ensures says { Gives result (judging.new_name (sa_names self.now.declared.sas) word.now) }
+        ensures formed { IfOk result (λ name. IsTrue (form.is_name name)) }
+        ensures new { IfOk result (λ name. list_any (bytes_eq name) (sa_names self.now.declared.sas) ≡ false) }
+    {
+        new_name(alloc, &self.sa_names, word)
     }
 
     /// The name of a new interface of a device.

@@ -8,6 +8,8 @@ mod declared;
 mod draft;
 mod endings;
 mod fault;
+mod ipsec_statements;
+mod ipsec_words;
 mod laws;
 mod lines;
 mod reading;

@@ -70,9 +70,9 @@ fn network(alloc: Global, draft: Draft) -> Result<Network, AllocError>
         interfaces: declared.interfaces,
         free: Items::from_vec(free),
         goals: declared.goals,
-        sas: Items::new(alloc),
+        sas: declared.sas,
         tables: Items::from_vec(tables),
-        ipgoals: Items::new(alloc),
+        ipgoals: declared.ipgoals,
         depth: declared.depth.unwrap_or(DEFAULT_DEPTH),
     })
 }

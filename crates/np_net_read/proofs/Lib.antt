@@ -12,5 +12,6 @@ pub mod PlainLines
 pub mod PlainWords
 pub mod SoundLaws
 pub mod StatementLines
+pub mod TableLaws
 pub mod TextBackLaws
 pub mod WordLaws

@@ -2,24 +2,14 @@
 use Rattle.std.proofs.Common.{◌≡◌, ℕ, zero, suc, ◌≤◌, ◌+◌, ◌*◌, nat_eq, List, [], ◌∷◌, ◌++◌, length, map, Option, Some, None, refl, ◌∙◌, ap, arith}
 use Rattle.std.specs.Prelude.{IfSome}
 use Rattle.std.specs.Option.{unwrap_or}
-use Rattle.std.specs.List.{list_any, range_with_len, sum}
+use Rattle.std.specs.List.{list_any, range_with_len}
 use Rattle.std.proofs.lemmas.List.{map-append}
 use Rattle.std.proofs.lemmas.List.FromFn.{length-map-range_with_len}
-use Rattle.np_net.specs.Network.{IsNetwork, AreTables, rule_count}
+use Rattle.np_net.specs.Network.{IsNetwork}
 use Rattle.np_net.specs.Limits.{depth_limit}
-use Rattle.np_net.specs.declared.filtering.Interface.{Interface}
-use Rattle.np_net.specs.declared.associations.Sa.{Sa}
 use Rattle.np_net_read.specs.declared.declared.Declared.{Declared}
-use Rattle.np_net_read.specs.Declaring.{free_flags, network_of, no_rules, depth_or_default}
+use Rattle.np_net_read.specs.Declaring.{free_flags, network_of, depth_or_default}
 use Rattle.np_net_read.specs.Fitting.{IsSound}
-
-tables_without_rules : (sas : List Sa) (interfaces : List Interface) → AreTables sas interfaces (map (λ interface. no_rules) interfaces)
-tables_without_rules sas [] = tt
-tables_without_rules sas (i ∷ interfaces) = (record { pops = tt; once = tt; ins = tt; outs = tt }, tables_without_rules sas interfaces)
-
-no_rule : (interfaces : List Interface) → sum (map rule_count (map (λ interface. no_rules) interfaces)) ≡ 0
-no_rule [] = refl
-no_rule (i ∷ interfaces) = no_rule interfaces
 
 shallow : (depth : Option ℕ) → IfSome depth (λ depth. (1 ≤ depth) × (depth ≤ depth_limit)) → 1 ≤ depth_or_default depth
 shallow None is = omega arith
@@ -56,7 +46,7 @@ sound_network d sound = record {
     interfaces = sound.interface_room;
     goals = sound.goal_room;
     sas = sound.sa_room;
-    rules = rw (no_rule d.interfaces) (omega arith);
+    rules = sound.rule_room;
     ipgoals = sound.ipgoal_room;
   };
   names = record {
@@ -71,7 +61,7 @@ sound_network d sound = record {
   free = length-map-range_with_len (λ slot. list_any (nat_eq slot) d.freed) 0 (2 * length d.interfaces);
   goals = sound.goals;
   sas = sound.sas;
-  tables = tables_without_rules d.sas d.interfaces;
+  tables = sound.tables;
   ipgoals = sound.ipgoals;
   shallow = shallow d.depth sound.depth;
   deep = deep d.depth sound.depth;

@@ -11,7 +11,8 @@ use Rattle.np_net.specs.declared.associations.Table.{Table}
 use Rattle.np_net_read.specs.declared.declared.Declared.{Declared}
 use Rattle.np_net_read.specs.declared.statement.Statement.TheVariants as statement
 use Rattle.np_net_read.specs.Canonical.{net_lines, net_text, filtering_lines, ipsec_lines, rule_lines, area_words, device_words, interface_words, free_lines, goal_words}
-use Rattle.np_net_read.specs.Declaring.{declared_by_network, network_of, no_rules}
+use Rattle.np_net_read.specs.Declaring.{declared_by_network, network_of}
+use Rattle.np_net_read.specs.Tables.{no_rules}
 use Rattle.np_net_read.specs.Filtering.{HasFilteringAlone}
 use Rattle.np_net_read.specs.Reading.{net_of}
 use Rattle.np_net_read.proofs.ChainLaws.{ArePlainLines, plain_lines_append, ReadsInto, then_reads, net_of_plain, words_of_plain}
@@ -57,7 +58,7 @@ module _ (net : Plan) (is : IsNetwork net) where
   whole = stage net net.interfaces (free_slots 0 net.free) net.goals
 
   begun : Declared
-  begun = record { areas = []; devices = []; interfaces = []; freed = []; goals = []; sas = []; ipgoals = []; depth = Some net.depth }
+  begun = record { areas = []; devices = []; interfaces = []; freed = []; goals = []; sas = []; tables = []; ipgoals = []; depth = Some net.depth }
 
   filtering_read : ReadsInto (declared_by_network []) (filtering_lines net) whole
   unfolding declared_by_network whole begun

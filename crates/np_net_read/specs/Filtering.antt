@@ -2,7 +2,7 @@
 use Rattle.std.specs.Prelude.{◌≡◌, []}
 use Rattle.std.specs.List.{AllByRecursion}
 use Rattle.np_net.specs.Plan.{Plan}
-use Rattle.np_net_read.specs.Declaring.{no_rules}
+use Rattle.np_net_read.specs.Tables.{no_rules}
 
 -- no associations, no rules and no IPsec goals
 pub record HasFilteringAlone (net : Plan) : Type 0 where

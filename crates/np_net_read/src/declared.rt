@@ -1,5 +1,6 @@
 //! What the lines of a network's text declare.
 
+use crate::tables::Tables;
 use np_net::{Area, Device, Goal, Interface, IpGoal, Sa};
 use sqlite_items::Items;
 
@@ -13,6 +14,8 @@ pub struct Declared {
     pub freed: Items<u16>,
     pub goals: Items<Goal>,
     pub sas: Items<Sa>,
+    /// One for each interface.
+    pub tables: Tables,
     pub ipgoals: Items<IpGoal>,
     pub depth: Option<u8>,
 }

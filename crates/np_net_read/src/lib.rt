@@ -15,6 +15,7 @@ mod lines;
 mod reading;
 mod statement;
 mod statements;
+mod tables;
 mod tokens;
 
 pub use canonical::put_net;

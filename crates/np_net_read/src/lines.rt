@@ -17,17 +17,6 @@ use np_lines::{LineError, is_text, statement_words};
 use np_text::Word;
 use std::alloc::Global;
 
-/// The fault of a first word that begins no statement.
-fn why_no_statement(word: &[u8]) -> NetWhy
-    ensures { result ≡ judging.why_no_statement word.now }
-{
-    if word == b"pop".as_slice() || word == b"inrule".as_slice() || word == b"outrule".as_slice() {
-        NetWhy::NotBuilt
-    } else {
-        NetWhy::UnknownStatement
-    }
-}
-
 /// A statement of the IPsec part, by its first word and the others.
 fn ipsec_statement(
     alloc: Global,
@@ -42,13 +31,22 @@ fn ipsec_statement(
     if word == b"sa".as_slice() {
         return ipsec_statements::sa(alloc, draft, words);
     }
+    if word == b"pop".as_slice() {
+        return ipsec_statements::pop(alloc, draft, words);
+    }
+    if word == b"inrule".as_slice() {
+        return ipsec_statements::in_rule(alloc, draft, words);
+    }
+    if word == b"outrule".as_slice() {
+        return ipsec_statements::out_rule(alloc, draft, words);
+    }
     if word == b"auth".as_slice() {
         return ipsec_statements::auth(alloc, draft, words);
     }
     if word == b"conf".as_slice() {
         return ipsec_statements::conf(alloc, draft, words);
     }
-    Err(LineError::Faulty(why_no_statement(word)))
+    Err(LineError::Faulty(NetWhy::UnknownStatement))
 }
 
 /// A statement, by its first word and the others.

@@ -1,6 +1,6 @@
 //! The statements of a network's text.
 
-use np_net::{Area, Device, Goal, Interface, IpGoal, Sa};
+use np_net::{Area, Device, Goal, IfId, InRule, Interface, IpGoal, OutRule, Sa, SaId};
 
 /// What a line declares. Each name that it uses stands for its place among the declarations.
 #[derive(Debug, Drop)]
@@ -19,6 +19,12 @@ pub enum Statement {
     Goal(Goal),
     /// `sa NAME KIND DEV DEV`
     Sa(Sa),
+    /// `pop DEV IF SA`
+    Pop { interface: IfId, sa: SaId },
+    /// `inrule DEV IF ACTION MARK MATCH`
+    InRule { interface: IfId, rule: InRule },
+    /// `outrule DEV IF ACTION MATCH`
+    OutRule { interface: IfId, rule: OutRule },
     /// `auth AREA AREA PRED` or `conf AREA PRED`
     IpGoal(IpGoal),
 }

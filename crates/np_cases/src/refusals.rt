@@ -11,8 +11,8 @@ use std::thread::Threads;
 /// Lines that are refused at the end of a network, and why.
 const NET_LINES: [(&[u8], &str); 15] = [
     (b"# \x80", "NotText"),
-    (b"sa t esp r r", "NotBuilt"),
     (b"color red", "UnknownStatement"),
+    (b"sa t gre r r", "BadShape"),
     (b"area z", "BadShape"),
     (b"area 1z none", "BadName"),
     (b"area none none", "BadName"),

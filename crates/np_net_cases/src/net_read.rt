@@ -50,8 +50,8 @@ fn a_text_is_written_in_its_canonical_form(rt: HostRuntime) -> Result<(), Fail> 
 fn the_first_faulty_line_counts(rt: HostRuntime) -> Result<(), Fail> {
     for (text, line, why) in [
         ("depth 3\n# caf\u{e9}\n", 2, NetWhy::NotText),
-        ("\n\nsa x esp d e\n", 3, NetWhy::NotBuilt),
         ("#\nfilter d\nfilter e\n", 2, NetWhy::UnknownStatement),
+        ("\n\nsa x esp d e\n", 3, NetWhy::UnknownName),
         ("depth\n", 1, NetWhy::BadShape),
         ("device d trusted x\n", 1, NetWhy::BadShape),
         ("area 1a none\n", 1, NetWhy::BadName),

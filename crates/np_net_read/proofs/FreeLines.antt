@@ -82,7 +82,7 @@ flags_back flags count e = ap (λ n. free_flags (free_slots 0 flags) n) (sym e) 
 
 module _ (net : Plan) (is : IsNetwork net) where
   -- an interface is found at its place
-  interface_found : (front back : List Interface) (interface : Interface) → net.interfaces ≡ front ++ interface ∷ back → position (same_place (interface.device, interface.name)) (interface_names net.interfaces) ≡ Some (length front)
+  pub interface_found : (front back : List Interface) (interface : Interface) → net.interfaces ≡ front ++ interface ∷ back → position (same_place (interface.device, interface.name)) (interface_names net.interfaces) ≡ Some (length front)
   interface_found front back interface e =
       let place : ℕ × List ℕ = (interface.device, interface.name) in
       let names : interface_names net.interfaces ≡ interface_names front ++ place ∷ interface_names back = ap interface_names e ∙ map-append (λ (i : Interface). (i.device, i.name)) front (interface ∷ back) in

@@ -3,14 +3,17 @@ pub mod ChainLaws
 pub mod DeclarationLaws
 pub mod DraftLaws
 pub mod FreeLines
+pub mod IpsecLines
 pub mod LineReading
 pub mod ListLaws
 pub mod NetworkLaws
 pub mod ParallelLaws
 pub mod PlainForms
+pub mod PlainIpsec
 pub mod PlainLines
 pub mod PlainWords
 pub mod SoundLaws
 pub mod StatementLines
+pub mod TableLaws
 pub mod TextBackLaws
 pub mod WordLaws

@@ -2,23 +2,14 @@
 use Rattle.std.proofs.Common.{◌≡◌, ℕ, zero, suc, ◌≤◌, ◌+◌, ◌*◌, nat_eq, List, [], ◌∷◌, ◌++◌, length, map, Option, Some, None, refl, ◌∙◌, ap, arith}
 use Rattle.std.specs.Prelude.{IfSome}
 use Rattle.std.specs.Option.{unwrap_or}
-use Rattle.std.specs.List.{list_any, range_with_len, sum}
+use Rattle.std.specs.List.{list_any, range_with_len}
 use Rattle.std.proofs.lemmas.List.{map-append}
 use Rattle.std.proofs.lemmas.List.FromFn.{length-map-range_with_len}
-use Rattle.np_net.specs.Network.{IsNetwork, AreTables, rule_count}
+use Rattle.np_net.specs.Network.{IsNetwork}
 use Rattle.np_net.specs.Limits.{depth_limit}
-use Rattle.np_net.specs.declared.filtering.Interface.{Interface}
 use Rattle.np_net_read.specs.declared.declared.Declared.{Declared}
-use Rattle.np_net_read.specs.Declaring.{free_flags, network_of, no_rules, depth_or_default}
+use Rattle.np_net_read.specs.Declaring.{free_flags, network_of, depth_or_default}
 use Rattle.np_net_read.specs.Fitting.{IsSound}
-
-tables_without_rules : (interfaces : List Interface) → AreTables [] interfaces (map (λ interface. no_rules) interfaces)
-tables_without_rules [] = tt
-tables_without_rules (i ∷ interfaces) = (record { pops = tt; once = tt; ins = tt; outs = tt }, tables_without_rules interfaces)
-
-no_rule : (interfaces : List Interface) → sum (map rule_count (map (λ interface. no_rules) interfaces)) ≡ 0
-no_rule [] = refl
-no_rule (i ∷ interfaces) = no_rule interfaces
 
 shallow : (depth : Option ℕ) → IfSome depth (λ depth. (1 ≤ depth) × (depth ≤ depth_limit)) → 1 ≤ depth_or_default depth
 shallow None is = omega arith
@@ -54,24 +45,24 @@ sound_network d sound = record {
     devices = sound.device_room;
     interfaces = sound.interface_room;
     goals = sound.goal_room;
-    sas = omega arith;
-    rules = rw (no_rule d.interfaces) (omega arith);
-    ipgoals = omega arith;
+    sas = sound.sa_room;
+    rules = sound.rule_room;
+    ipgoals = sound.ipgoal_room;
   };
   names = record {
     areas = sound.area_names;
     devices = sound.device_names;
     interfaces = sound.interface_names;
-    sas = tt;
+    sas = sound.sa_names;
   };
   areas = sound.areas;
   devices = sound.devices;
   interfaces = sound.interfaces;
   free = length-map-range_with_len (λ slot. list_any (nat_eq slot) d.freed) 0 (2 * length d.interfaces);
   goals = sound.goals;
-  sas = tt;
-  tables = tables_without_rules d.interfaces;
-  ipgoals = tt;
+  sas = sound.sas;
+  tables = sound.tables;
+  ipgoals = sound.ipgoals;
   shallow = shallow d.depth sound.depth;
   deep = deep d.depth sound.depth;
 }

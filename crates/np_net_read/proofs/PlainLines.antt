@@ -32,7 +32,7 @@ only_plain true = refl
 only_plain false = refl
 
 -- the name at a place in a list of items with plain names
-named_plain : {X : Type 0} (P : X → Type 0) (name : X → List ℕ) → ((x : X) → P x → is_file_name (name x) ≡ true) → (xs : List X) (n : ℕ) → AllByRecursion P xs → n < length xs → is_file_name (get_or (map name xs) n []) ≡ true
+pub named_plain : {X : Type 0} (P : X → Type 0) (name : X → List ℕ) → ((x : X) → P x → is_file_name (name x) ≡ true) → (xs : List X) (n : ℕ) → AllByRecursion P xs → n < length xs → is_file_name (get_or (map name xs) n []) ≡ true
 named_plain P name each [] n h lt = absurd (omega arith)
 named_plain P name each (x ∷ xs) zero h lt = each x h.0
 named_plain P name each (x ∷ xs) (suc n) h lt = named_plain P name each xs n h.1 (omega arith)
@@ -51,10 +51,10 @@ devices_plain (device ∷ devices) h =
 -- ---- what names them
 
 module _ (net : Plan) (is : IsNetwork net) where
-  area_plain : (n : ℕ) → n < length net.areas → is_file_name (area_name net n) ≡ true
+  pub area_plain : (n : ℕ) → n < length net.areas → is_file_name (area_name net n) ≡ true
   area_plain n lt = named_plain (λ (area : Area). IsArea area) (λ (area : Area). area.name) (λ area h. name_plain area.name h.name) net.areas n is.areas lt
 
-  device_plain : (n : ℕ) → n < length net.devices → is_file_name (device_name net n) ≡ true
+  pub device_plain : (n : ℕ) → n < length net.devices → is_file_name (device_name net n) ≡ true
   device_plain n lt = named_plain (λ (device : Device). IsDevice device) (λ (device : Device). device.name) (λ device h. name_plain device.name h.name) net.devices n is.devices lt
 
   abbrev Formed : Interface → Type 0

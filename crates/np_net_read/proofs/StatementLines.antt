@@ -20,6 +20,7 @@ use Rattle.np_net_read.specs.declared.statement.Statement.TheVariants as stateme
 use Rattle.np_net_read.specs.Canonical.{trusted_words, config_words, depth_words, area_words, device_words, interface_words, goal_words, only_word}
 use Rattle.np_net.specs.Sources.{source_list}
 use Rattle.np_net_read.specs.Fitting.{IsNewDepth, IsNewArea, IsNewDevice}
+use Rattle.np_net_read.specs.Tables.{no_rules}
 use Rattle.np_net_read.specs.Judging.{named, only_of, trusted_of, options_of, words_say, depth_says, area_says, device_says, interface_says, goal_says}
 use Rattle.np_net_read.proofs.ChainLaws.{ReadsInto}
 use Rattle.np_net.proofs.NamingLaws.{name_found}
@@ -77,7 +78,7 @@ devices_read declared (device ∷ devices) new formed room =
 
 -- what is declared after the areas and devices of the network
 abbrev pub stage : Plan → List Interface → List ℕ → List Goal → Declared
-stage net interfaces freed goals = record { areas = net.areas; devices = net.devices; interfaces = interfaces; freed = freed; goals = goals; depth = Some net.depth }
+stage net interfaces freed goals = record { areas = net.areas; devices = net.devices; interfaces = interfaces; freed = freed; goals = goals; sas = []; tables = map (λ interface. no_rules) interfaces; ipgoals = []; depth = Some net.depth }
 
 module _ (net : Plan) (is : IsNetwork net) where
   pub area_named : (n : ℕ) → n < length net.areas → named (area_names net.areas) (area_name net n) ≡ Ok n
@@ -99,7 +100,8 @@ module _ (net : Plan) (is : IsNetwork net) where
   interfaces_read before [] new formed room = ap (λ interfaces. stage net interfaces [] []) (sym (append-nil before))
   interfaces_read before (interface ∷ interfaces) new formed room =
       let rest = interfaces_read (before ++ interface ∷ []) interfaces (subst (λ seen. AreNewAfter same_place seen (interface_names interfaces)) (sym (map-append (λ (i : Interface). (i.device, i.name)) before (interface ∷ []))) new.1) formed.1 (omega (arith, length-append before (interface ∷ []))) in
-      (statement.Interface interface, interface_read before interface formed.0 new.0 (omega arith), subst (λ all. ReadsInto (stage net (before ++ interface ∷ []) [] []) (map (interface_words net) interfaces) (stage net all [] [])) (append_assoc before (interface ∷ []) interfaces) rest)
+      let begun = map-append (λ (i : Interface). no_rules) before (interface ∷ []) in
+      (statement.Interface interface, interface_read before interface formed.0 new.0 (omega arith), subst (λ tables. ReadsInto (record (stage net (before ++ interface ∷ []) [] []) { tables = tables }) (map (interface_words net) interfaces) (stage net (before ++ interface ∷ interfaces) [] [])) begun (subst (λ all. ReadsInto (stage net (before ++ interface ∷ []) [] []) (map (interface_words net) interfaces) (stage net all [] [])) (append_assoc before (interface ∷ []) interfaces) rest))
 
   -- ---- goals
 

@@ -1,11 +1,11 @@
 -- How a line is judged against what the lines before it declare.
-use Rattle.std.specs.Prelude.{ℕ, ◌+◌, ◌*◌, Bool, true, false, ◌||◌, ◌==◌, nat_eq, nat_lt, List, [], ◌∷◌, length, Option, Some, None, Result, Ok, Err, codes, if◌then◌else◌}
+use Rattle.std.specs.Prelude.{ℕ, ◌+◌, ◌*◌, Bool, true, false, ◌==◌, nat_eq, nat_lt, List, [], ◌∷◌, length, Option, Some, None, Result, Ok, Err, codes, if◌then◌else◌}
 use Rattle.std.specs.List.{list_all, list_any}
 use Rattle.std.specs.Option.{ok_or}
 use Rattle.std.specs.Str.{bytes_eq}
 use Rattle.np_text.specs.Numbers.{number_of}
 use Rattle.np_text.specs.Words.{words_of}
-use Rattle.np_lines.specs.Judging.{Judged, ◌>>=◌, word_in, ended, within}
+use Rattle.np_lines.specs.Judging.{Judged, Read, ◌>>=◌, word_in, ended, within}
 use Rattle.np_lines.specs.Skipping.{is_text_byte}
 use Rattle.np_lines.specs.Skipping as skipping
 use Rattle.np_space.specs.declared.patterns.Ternary.{Ternary}
@@ -19,14 +19,29 @@ use Rattle.np_net.specs.Naming.{id_named, interface_id_named}
 use Rattle.np_net.specs.Sources.{source_list}
 use Rattle.np_net.specs.declared.pred_faults.PredWhy.{PredWhy}
 use Rattle.np_net.specs.declared.pred_faults.PredWhy.TheVariants as unread
-use Rattle.np_net.specs.Limits.{declaration_limit, interface_limit, depth_limit}
+use Rattle.np_net.specs.Limits.{declaration_limit, interface_limit, rule_limit, depth_limit}
 use Rattle.np_net.specs.Names.{is_name, is_interface_name}
-use Rattle.np_net.specs.Plan.{area_names, device_names, interface_names}
+use Rattle.np_net.specs.Network.{sa_at}
+use Rattle.np_net.specs.Path.{device_of}
+use Rattle.np_net.specs.Plan.{area_names, device_names, interface_names, sa_names}
+use Rattle.np_net.specs.declared.associations.Kind.{Kind}
+use Rattle.np_net.specs.declared.associations.Kind.TheVariants as kind
+use Rattle.np_net.specs.declared.associations.Match.{Match}
+use Rattle.np_net.specs.declared.associations.Match.TheVariants as top
+use Rattle.np_net.specs.declared.associations.MarkTest.{MarkTest}
+use Rattle.np_net.specs.declared.associations.MarkTest.TheVariants as mark
+use Rattle.np_net.specs.declared.associations.InAction.{InAction}
+use Rattle.np_net.specs.declared.associations.InAction.TheVariants as inward
+use Rattle.np_net.specs.declared.associations.OutAction.{OutAction}
+use Rattle.np_net.specs.declared.associations.OutAction.TheVariants as outward
+use Rattle.np_net.specs.declared.associations.IpGoal.{IpGoal}
+use Rattle.np_net.specs.declared.associations.IpGoal.TheVariants as ipgoal
 use Rattle.np_net_read.specs.declared.declared.Declared.{Declared}
 use Rattle.np_net_read.specs.declared.statement.Statement.{Statement}
 use Rattle.np_net_read.specs.declared.statement.Statement.TheVariants as statement
 use Rattle.np_net_read.specs.declared.fault.NetWhy.{NetWhy}
 use Rattle.np_net_read.specs.declared.fault.NetWhy.TheVariants as why
+use Rattle.np_net_read.specs.Tables.{rule_total, table_at}
 
 -- ---- single words
 
@@ -80,6 +95,82 @@ only_of word =
     if bytes_eq word (codes "never") then Ok false else
     (if bytes_eq word (codes "only") then Ok true else Err why.BadShape)
 
+-- the kind of an association
+abbrev pub kind_of : List ℕ → Judged NetWhy Kind
+kind_of word =
+    if bytes_eq word (codes "esp") then Ok kind.Esp else
+    (if bytes_eq word (codes "esp-enc") then Ok kind.EspEnc else
+    (if bytes_eq word (codes "esp-null") then Ok kind.EspNull else
+    (if bytes_eq word (codes "ah") then Ok kind.Ah else Err why.BadShape)))
+
+-- the action of an inward rule
+abbrev pub in_action_of : List ℕ → Judged NetWhy InAction
+in_action_of word =
+    if bytes_eq word (codes "bypass") then Ok inward.Bypass else
+    (if bytes_eq word (codes "discard") then Ok inward.Discard else Err why.BadShape)
+
+-- an association whose header the device of this interface removes
+abbrev pub ending_at : Declared → ℕ → ℕ → Judged NetWhy ℕ
+ending_at declared interface sa = if (sa_at declared.sas sa).to == device_of declared.interfaces interface then Ok sa else Err why.WrongEnd
+
+-- an association whose header the device of this interface puts around packets
+abbrev pub beginning_at : Declared → ℕ → ℕ → Judged NetWhy ℕ
+beginning_at declared interface sa = if (sa_at declared.sas sa).from == device_of declared.interfaces interface then Ok sa else Err why.WrongEnd
+
+-- an association that this interface has no pop rule of
+abbrev pub new_pop : Declared → ℕ → ℕ → Judged NetWhy ℕ
+new_pop declared interface sa = if list_any (nat_eq sa) (table_at declared.tables interface).pops then Err why.Duplicate else Ok sa
+
+-- ---- what the next words name
+
+-- the area that the next word names
+abbrev pub area_next : Declared → List (List ℕ) → Read NetWhy ℕ
+area_next declared words = word_in why.BadShape words >>= λ area. named (area_names declared.areas) area.0 >>= λ a. Ok (a, area.1)
+
+-- the device that the next word names
+abbrev pub device_next : Declared → List (List ℕ) → Read NetWhy ℕ
+device_next declared words = word_in why.BadShape words >>= λ device. named (device_names declared.devices) device.0 >>= λ d. Ok (d, device.1)
+
+-- the interface that the next two words name, by its device and its name
+unfoldable pub interface_next : Declared → List (List ℕ) → Read NetWhy ℕ
+interface_next declared words =
+    device_next declared words >>= λ device. word_in why.BadShape device.1 >>= λ name.
+    interface_named (interface_names declared.interfaces) device.0 name.0 >>= λ i. Ok (i, name.1)
+
+-- the association that the next word names
+abbrev pub sa_next : Declared → List (List ℕ) → Read NetWhy ℕ
+sa_next declared words = word_in why.BadShape words >>= λ sa. named (sa_names declared.sas) sa.0 >>= λ s. Ok (s, sa.1)
+
+-- the same, where the device of this interface removes its header
+abbrev pub ending_next : Declared → ℕ → List (List ℕ) → Read NetWhy ℕ
+ending_next declared interface words = sa_next declared words >>= λ sa. ending_at declared interface sa.0 >>= λ s. Ok (s, sa.1)
+
+-- the same, where the device of this interface puts its header around packets
+abbrev pub beginning_next : Declared → ℕ → List (List ℕ) → Read NetWhy ℕ
+beginning_next declared interface words = sa_next declared words >>= λ sa. beginning_at declared interface sa.0 >>= λ s. Ok (s, sa.1)
+
+-- `unmarked`, `popped SA` or `anymark`, by the first word and the others
+abbrev pub mark_from : Declared → ℕ → List ℕ → List (List ℕ) → Read NetWhy MarkTest
+mark_from declared interface word words =
+    if bytes_eq word (codes "unmarked") then Ok (mark.Unmarked, words) else
+    (if bytes_eq word (codes "anymark") then Ok (mark.AnyMark, words) else
+    (if bytes_eq word (codes "popped") then (ending_next declared interface words >>= λ sa. Ok (mark.Popped sa.0, sa.1)) else Err why.BadShape))
+
+-- what an inward rule at this interface asks of the association that was removed last
+abbrev pub mark_next : Declared → ℕ → List (List ℕ) → Read NetWhy MarkTest
+mark_next declared interface words = word_in why.BadShape words >>= λ word. mark_from declared interface word.0 word.1
+
+-- `bypass`, `discard` or `protect SA`, by the first word and the others
+abbrev pub out_action_from : Declared → ℕ → List ℕ → List (List ℕ) → Read NetWhy OutAction
+out_action_from declared interface word words =
+    if bytes_eq word (codes "bypass") then Ok (outward.Bypass, words) else
+    (if bytes_eq word (codes "discard") then Ok (outward.Discard, words) else
+    (if bytes_eq word (codes "protect") then (beginning_next declared interface words >>= λ sa. Ok (outward.Protect sa.0, sa.1)) else Err why.BadShape))
+
+-- the action of an outward rule at this interface
+abbrev pub out_action_next : Declared → ℕ → List (List ℕ) → Read NetWhy OutAction
+out_action_next declared interface words = word_in why.BadShape words >>= λ word. out_action_from declared interface word.0 word.1
+
 -- ---- the words at the end of a statement
 
 -- `trusted`, or nothing
@@ -109,6 +200,21 @@ pred_or_why (Err fault) = Err (cause_of (pred_why fault))
 -- the predicate that the words are
 abbrev pub pred_in : Declared → List (List ℕ) → Judged NetWhy Pred
 pred_in declared words = pred_or_why (pred_of (source_list declared.areas) words)
+
+-- the association that a header has to be of
+abbrev pub under_in : Declared → List (List ℕ) → Judged NetWhy Match
+under_in declared words = sa_next declared words >>= λ sa. ended why.BadShape sa.1 (top.Under sa.0)
+
+-- `plain PRED`, `under SA` or `every`, by the first word and the others
+abbrev pub match_from : Declared → List ℕ → List (List ℕ) → Judged NetWhy Match
+match_from declared word words =
+    if bytes_eq word (codes "plain") then (pred_in declared words >>= λ p. Ok (top.Plain p)) else
+    (if bytes_eq word (codes "under") then under_in declared words else
+    (if bytes_eq word (codes "every") then ended why.BadShape words top.Every else Err why.BadShape))
+
+-- what a rule asks of a packet's outermost header
+abbrev pub match_in : Declared → List (List ℕ) → Judged NetWhy Match
+match_in declared words = word_in why.BadShape words >>= λ word. match_from declared word.0 word.1
 
 -- ---- statements, each without its first word
 
@@ -163,17 +269,66 @@ goal_says declared words =
     pred_in declared keyword.1 >>= λ p.
     within why.TooMany declaration_limit (length declared.goals) (statement.Goal (record { from = f; to = t; only = o; pred = p }))
 
+-- ---- statements of the IPsec part, each without its first word
+
+-- `sa NAME KIND DEV DEV`
+unfoldable pub sa_says : Declared → List (List ℕ) → Judged NetWhy Statement
+sa_says declared words =
+    word_in why.BadShape words >>= λ name. new_name (sa_names declared.sas) name.0 >>= λ n.
+    word_in why.BadShape name.1 >>= λ word. kind_of word.0 >>= λ k.
+    device_next declared word.1 >>= λ from. device_next declared from.1 >>= λ to. ended why.BadShape to.1 to.0 >>= λ t.
+    within why.TooMany declaration_limit (length declared.sas) (statement.Sa (record { name = n; kind = k; from = from.0; to = t }))
+
+-- a rule, where there is room for it among those of all interfaces
+abbrev pub rule_says : Declared → Statement → Judged NetWhy Statement
+rule_says declared s = within why.TooMany rule_limit (rule_total declared.tables) s
+
+-- `pop DEV IF SA`
+unfoldable pub pop_says : Declared → List (List ℕ) → Judged NetWhy Statement
+pop_says declared words =
+    interface_next declared words >>= λ interface. ending_next declared interface.0 interface.1 >>= λ sa.
+    new_pop declared interface.0 sa.0 >>= λ s. ended why.BadShape sa.1 s >>= λ s. rule_says declared (statement.Pop interface.0 s)
+
+-- `inrule DEV IF ACTION MARK MATCH`
+unfoldable pub inrule_says : Declared → List (List ℕ) → Judged NetWhy Statement
+inrule_says declared words =
+    interface_next declared words >>= λ interface. word_in why.BadShape interface.1 >>= λ word. in_action_of word.0 >>= λ a.
+    mark_next declared interface.0 word.1 >>= λ m. match_in declared m.1 >>= λ t.
+    rule_says declared (statement.InRule interface.0 (record { action = a; mark = m.0; top = t }))
+
+-- `outrule DEV IF ACTION MATCH`
+unfoldable pub outrule_says : Declared → List (List ℕ) → Judged NetWhy Statement
+outrule_says declared words =
+    interface_next declared words >>= λ interface. out_action_next declared interface.0 interface.1 >>= λ action. match_in declared action.1 >>= λ t.
+    rule_says declared (statement.OutRule interface.0 (record { action = action.0; top = t }))
+
+-- an IPsec goal, where there is room for it
+abbrev pub ipgoal_says : Declared → IpGoal → Judged NetWhy Statement
+ipgoal_says declared goal = within why.TooMany declaration_limit (length declared.ipgoals) (statement.IpGoal goal)
+
+-- `auth AREA AREA PRED`
+unfoldable pub auth_says : Declared → List (List ℕ) → Judged NetWhy Statement
+auth_says declared words =
+    area_next declared words >>= λ from. area_next declared from.1 >>= λ at. pred_in declared at.1 >>= λ p.
+    ipgoal_says declared (ipgoal.Auth from.0 at.0 p)
+
+-- `conf AREA PRED`
+unfoldable pub conf_says : Declared → List (List ℕ) → Judged NetWhy Statement
+conf_says declared words =
+    area_next declared words >>= λ from. pred_in declared from.1 >>= λ p. ipgoal_says declared (ipgoal.Conf from.0 p)
+
 -- ---- lines
 
--- a statement's first word that isn't read yet
-abbrev pub is_unbuilt : List ℕ → Bool
-is_unbuilt word =
-    bytes_eq word (codes "sa") || bytes_eq word (codes "pop") || bytes_eq word (codes "inrule") || bytes_eq word (codes "outrule")
-    || bytes_eq word (codes "auth") || bytes_eq word (codes "conf")
-
--- the fault of a first word that begins no statement
-abbrev pub why_no_statement : List ℕ → NetWhy
-why_no_statement word = if is_unbuilt word then why.NotBuilt else why.UnknownStatement
+-- a statement of the IPsec part, by its first word and the others
+abbrev pub ipsec_says : Declared → List ℕ → List (List ℕ) → Judged NetWhy Statement
+ipsec_says declared word words =
+    if bytes_eq word (codes "sa") then sa_says declared words else
+    (if bytes_eq word (codes "pop") then pop_says declared words else
+    (if bytes_eq word (codes "inrule") then inrule_says declared words else
+    (if bytes_eq word (codes "outrule") then outrule_says declared words else
+    (if bytes_eq word (codes "auth") then auth_says declared words else
+    (if bytes_eq word (codes "conf") then conf_says declared words else
+    Err why.UnknownStatement)))))
 
 -- a statement, by its first word and the others
 abbrev pub statement_says : Declared → List ℕ → List (List ℕ) → Judged NetWhy Statement
@@ -184,7 +339,7 @@ statement_says declared word words =
     (if bytes_eq word (codes "interface") then interface_says declared words else
     (if bytes_eq word (codes "free") then free_says declared words else
     (if bytes_eq word (codes "goal") then goal_says declared words else
-    Err (why_no_statement word))))))
+    ipsec_says declared word words)))))
 
 -- a line without words and a comment, which begins with `#`, declare nothing; each other line is one statement
 abbrev pub words_say : Declared → List (List ℕ) → Judged NetWhy (Option Statement)

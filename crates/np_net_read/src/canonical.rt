@@ -210,7 +210,6 @@ fn net_text(alloc: Global, net: &Network) -> Result<Vec<u8>, AllocError>
 
 /// Appends the canonical text of a network, which [`read_net`](crate::read_net) reads as this network.
 ///
-/// It writes the statements of security associations and rules (RFC 4301) too, which are not read yet.
 /// An error comes only where memory runs out, and a prefix of the text may then have been appended.
 pub fn put_net(alloc: Global, net: &Network, out: &mut Vec<u8>) -> Result<(), AllocError>
     ensures ok { OnOk result (out.new.items ≡ out.old.items ++ canonical.net_text net.now) }

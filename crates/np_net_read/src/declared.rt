@@ -1,6 +1,7 @@
 //! What the lines of a network's text declare.
 
-use np_net::{Area, Device, Goal, Interface};
+use crate::tables::Tables;
+use np_net::{Area, Device, Goal, Interface, IpGoal, Sa};
 use sqlite_items::Items;
 
 /// What lines declare, each list in their order.
@@ -12,5 +13,9 @@ pub struct Declared {
     /// The free slots.
     pub freed: Items<u16>,
     pub goals: Items<Goal>,
+    pub sas: Items<Sa>,
+    /// One for each interface.
+    pub tables: Tables,
+    pub ipgoals: Items<IpGoal>,
     pub depth: Option<u8>,
 }

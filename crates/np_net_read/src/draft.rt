@@ -4,22 +4,23 @@ ghost use Rattle.std.specs.Prelude.{◌≡◌, ◌<◌, [], false, length, nat_e
 ghost use Rattle.std.specs.List.{list_any};
 ghost use Rattle.std.specs.Str.{bytes_eq};
 ghost use Rattle.np_net_read.specs.Drafting.{IsDraft};
-ghost use Rattle.np_net_read.specs.Fitting.{Fits, IsNewArea, IsNewDevice, IsNewInterface, IsNewSlot, added};
+ghost use Rattle.np_net_read.specs.Fitting.{Fits, IsNewArea, IsNewDevice, IsNewInRule, IsNewInterface, IsNewOutRule, IsNewPop, IsNewSa, IsNewSlot, added};
 ghost use Rattle.np_net_read.specs.Declaring.{declared_by_network};
 ghost use Rattle.np_lines.specs.Answers.{Gives};
 ghost use Rattle.np_net_read.specs.Judging as judging;
 ghost use Rattle.np_net_read.specs.declared.statement.Statement.TheVariants as says;
 ghost use Rattle.np_net.specs.Distinct.{same_place};
 ghost use Rattle.np_net.specs.Names as form;
-ghost use Rattle.np_net.specs.Plan.{area_names, device_names, interface_names};
+ghost use Rattle.np_net.specs.Plan.{area_names, device_names, interface_names, sa_names};
 
 use crate::declared::Declared;
 use crate::fault::NetWhy;
 use crate::statement::Statement;
+use crate::tables::Tables;
 use crate::tokens::{interface_named, named, new_interface_name, new_name};
 use indexmap::IndexSet;
 use np_lines::LineError;
-use np_net::{Area, Device, Interface, Names, Places};
+use np_net::{Area, Device, IfId, InRule, Interface, Names, OutRule, Places, Sa, SaId};
 use np_pred::Areas;
 use np_text::Name;
 use sqlite_items::Items;
@@ -36,6 +37,9 @@ pub struct Draft {
     pub places: Places,
     /// The free slots.
     pub freed: IndexSet<u16>,
+    pub sa_names: Names,
+    /// How many rules the tables have in all.
+    pub rules: usize,
 }
 
 /// Nothing is declared.
@@ -49,6 +53,9 @@ fn nothing_declared(alloc: Global) -> Declared
         interfaces: Items::new(alloc),
         freed: Items::new(alloc),
         goals: Items::new(alloc),
+        sas: Items::new(alloc),
+        tables: Tables::new(alloc),
+        ipgoals: Items::new(alloc),
         depth: None,
     }
 }
@@ -66,6 +73,8 @@ impl Draft {
             device_names: Names::new(alloc),
             places: Places::new(alloc),
             freed: IndexSet::new(alloc),
+            sa_names: Names::new(alloc),
+            rules: 0,
         }
     }
 
@@ -102,6 +111,7 @@ impl Draft {
         self.places
             .add(alloc, interface.device, interface.name.bytes())?;
         self.declared.interfaces.push(interface)?;
+        self.declared.tables.begin(alloc)?;
         Ok(())
     }
 
@@ -113,6 +123,50 @@ impl Draft {
     {
         self.freed.insert(slot)?;
         self.declared.freed.push(slot)?;
+        Ok(())
+    }
+
+    fn add_sa(&mut self, alloc: Global, sa: Sa) -> Result<(), AllocError>
+        requires draft { IsDraft self.old }
+        requires fits { IsNewSa self.old.declared sa }
+        ensures declared { OnOk result (self.new.declared ≡ added self.old.declared (says.Sa sa)) }
+        ensures draft { OnOk result (IsDraft self.new) }
+    {
+        self.sa_names.add(alloc, sa.name.bytes())?;
+        self.declared.sas.push(sa)?;
+        Ok(())
+    }
+
+    fn add_pop(&mut self, interface: IfId, sa: SaId) -> Result<(), AllocError>
+        requires draft { IsDraft self.old }
+        requires fits { IsNewPop self.old.declared interface sa }
+        ensures declared { OnOk result (self.new.declared ≡ added self.old.declared (says.Pop interface sa)) }
+        ensures draft { OnOk result (IsDraft self.new) }
+    {
+        self.declared.tables.add_pop(interface, sa)?;
+        self.rules += 1;
+        Ok(())
+    }
+
+    fn add_in_rule(&mut self, interface: IfId, rule: InRule) -> Result<(), AllocError>
+        requires draft { IsDraft self.old }
+        requires fits { IsNewInRule self.old.declared interface rule }
+        ensures declared { OnOk result (self.new.declared ≡ added self.old.declared (says.InRule interface rule)) }
+        ensures draft { OnOk result (IsDraft self.new) }
+    {
+        self.declared.tables.add_in_rule(interface, rule)?;
+        self.rules += 1;
+        Ok(())
+    }
+
+    fn add_out_rule(&mut self, interface: IfId, rule: OutRule) -> Result<(), AllocError>
+        requires draft { IsDraft self.old }
+        requires fits { IsNewOutRule self.old.declared interface rule }
+        ensures declared { OnOk result (self.new.declared ≡ added self.old.declared (says.OutRule interface rule)) }
+        ensures draft { OnOk result (IsDraft self.new) }
+    {
+        self.declared.tables.add_out_rule(interface, rule)?;
+        self.rules += 1;
         Ok(())
     }
 
@@ -130,6 +184,11 @@ impl Draft {
             Statement::Interface(interface) => self.add_interface(alloc, interface)?,
             Statement::Free(slot) => self.add_slot(slot)?,
             Statement::Goal(goal) => self.declared.goals.push(goal)?,
+            Statement::Sa(sa) => self.add_sa(alloc, sa)?,
+            Statement::Pop { interface, sa } => self.add_pop(interface, sa)?,
+            Statement::InRule { interface, rule } => self.add_in_rule(interface, rule)?,
+            Statement::OutRule { interface, rule } => self.add_out_rule(interface, rule)?,
+            Statement::IpGoal(goal) => self.declared.ipgoals.push(goal)?,
         }
         Ok(())
     }
@@ -172,6 +231,16 @@ impl Draft {
         interface_named(alloc, &self.places, device, word)
     }
 
+    /// The number of a declared association.
+    #[tactic(auto, using(crate::proofs::DraftLaws::few_sas))]
+    pub fn sa(&self, alloc: Global, word: &[u8]) -> Result<SaId, LineError<NetWhy>>
+        requires { IsDraft self.now }
+        ensures says { Gives result (judging.named (sa_names self.now.declared.sas) word.now) }
+        ensures within { IfOk result (λ n. n < length self.now.declared.sas) }
+    {
+        named(alloc, &self.sa_names, word)
+    }
+
     /// The name of a new area.
     pub fn new_area(&self, alloc: Global, word: &[u8]) -> Result<Name, LineError<NetWhy>>
         requires { IsDraft self.now }
@@ -190,6 +259,16 @@ impl Draft {
         ensures new { IfOk result (λ name. list_any (bytes_eq name) (device_names self.now.declared.devices) ≡ false) }
     {
         new_name(alloc, &self.device_names, word)
+    }
+
+    /// The name of a new association.
+    pub fn new_sa(&self, alloc: Global, word: &[u8]) -> Result<Name, LineError<NetWhy>>
+        requires { IsDraft self.now }
+        ensures says { Gives result (judging.new_name (sa_names self.now.declared.sas) word.now) }
+        ensures formed { IfOk result (λ name. IsTrue (form.is_name name)) }
+        ensures new { IfOk result (λ name. list_any (bytes_eq name) (sa_names self.now.declared.sas) ≡ false) }
+    {
+        new_name(alloc, &self.sa_names, word)
     }
 
     /// The name of a new interface of a device.

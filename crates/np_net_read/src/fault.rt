@@ -7,8 +7,6 @@ use np_lines::{LineFault, TextError};
 pub enum NetWhy {
     /// It has a byte other than a printable ASCII character, a tab or a carriage return.
     NotText,
-    /// Its statement is one of the IPsec part, which isn't read yet.
-    NotBuilt,
     /// Its first word begins no statement.
     UnknownStatement,
     /// A word is missing, another one stands in a keyword's place, or a word stands after the statement.

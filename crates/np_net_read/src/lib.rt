@@ -8,11 +8,14 @@ mod declared;
 mod draft;
 mod endings;
 mod fault;
+mod ipsec_statements;
+mod ipsec_words;
 mod laws;
 mod lines;
 mod reading;
 mod statement;
 mod statements;
+mod tables;
 mod tokens;
 
 pub use canonical::put_net;

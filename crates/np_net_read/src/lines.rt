@@ -12,26 +12,41 @@ ghost use Rattle.np_net_read.specs.Words.{ArePlainWords};
 use crate::draft::Draft;
 use crate::fault::{NetError, NetFault, NetWhy};
 use crate::statement::Statement;
-use crate::statements;
+use crate::{ipsec_statements, statements};
 use np_lines::{LineError, is_text, statement_words};
 use np_text::Word;
 use std::alloc::Global;
 
-/// The fault of a first word that begins no statement.
-fn why_no_statement(word: &[u8]) -> NetWhy
-    ensures { result ≡ judging.why_no_statement word.now }
+/// A statement of the IPsec part, by its first word and the others.
+fn ipsec_statement(
+    alloc: Global,
+    draft: &Draft,
+    word: &[u8],
+    words: &[Word<'_>],
+) -> Result<Statement, LineError<NetWhy>>
+    requires { IsDraft draft.now }
+    ensures says { Gives result (judging.ipsec_says draft.now.declared word.now (texts words.now)) }
+    ensures fits { IfOk result (λ s. Fits draft.now.declared s) }
 {
-    if word == b"sa".as_slice()
-        || word == b"pop".as_slice()
-        || word == b"inrule".as_slice()
-        || word == b"outrule".as_slice()
-        || word == b"auth".as_slice()
-        || word == b"conf".as_slice()
-    {
-        NetWhy::NotBuilt
-    } else {
-        NetWhy::UnknownStatement
+    if word == b"sa".as_slice() {
+        return ipsec_statements::sa(alloc, draft, words);
     }
+    if word == b"pop".as_slice() {
+        return ipsec_statements::pop(alloc, draft, words);
+    }
+    if word == b"inrule".as_slice() {
+        return ipsec_statements::in_rule(alloc, draft, words);
+    }
+    if word == b"outrule".as_slice() {
+        return ipsec_statements::out_rule(alloc, draft, words);
+    }
+    if word == b"auth".as_slice() {
+        return ipsec_statements::auth(alloc, draft, words);
+    }
+    if word == b"conf".as_slice() {
+        return ipsec_statements::conf(alloc, draft, words);
+    }
+    Err(LineError::Faulty(NetWhy::UnknownStatement))
 }
 
 /// A statement, by its first word and the others.
@@ -64,7 +79,7 @@ fn statement(
     if word == b"goal".as_slice() {
         return statements::goal(alloc, draft, words);
     }
-    Err(LineError::Faulty(why_no_statement(word)))
+    ipsec_statement(alloc, draft, word, words)
 }
 
 /// The statement of the words of a line that isn't skipped.

@@ -1,8 +1,8 @@
 //! A network from its text.
 
-ghost use Rattle.std.specs.Prelude.{◌≡◌, ◌≤◌, ◌*◌, Ok, IfOk, IfErr, length, map};
+ghost use Rattle.std.specs.Prelude.{◌≡◌, ◌≤◌, ◌*◌, Ok, IfOk, IfErr};
 ghost use Rattle.np_lines.specs.Answers.{IsFaultOf};
-ghost use Rattle.np_net_read.specs.Declaring.{free_flags, network_of, no_rules};
+ghost use Rattle.np_net_read.specs.Declaring.{free_flags, network_of};
 ghost use Rattle.np_net_read.specs.Drafting.{IsDraft};
 ghost use Rattle.np_net_read.specs.Reading.{net_of};
 
@@ -10,7 +10,7 @@ use crate::draft::Draft;
 use crate::fault::NetError;
 use crate::lines::read_line;
 use indexmap::IndexSet;
-use np_net::{Interface, Network, Table};
+use np_net::Network;
 use np_text::lines;
 use sqlite_items::Items;
 use std::alloc::{AllocError, Global};
@@ -34,27 +34,6 @@ fn free_flags(
     Ok(flags)
 }
 
-fn no_rules(alloc: Global) -> Table
-    ensures { result ≡ no_rules }
-{
-    Table {
-        pops: Items::new(alloc),
-        ins: Items::new(alloc),
-        outs: Items::new(alloc),
-    }
-}
-
-/// A table without rules for each interface.
-fn empty_tables(alloc: Global, interfaces: &[Interface]) -> Result<Vec<Table>, AllocError>
-    ensures { IfOk result (λ tables. tables.items ≡ map (λ interface. no_rules) interfaces.now) }
-{
-    let mut tables = Vec::new(alloc);
-    for _ in interfaces {
-        tables.push(no_rules(alloc))?;
-    }
-    Ok(tables)
-}
-
 /// The network of what is declared.
 #[tactic(auto, unfolding(crate::specs::Declaring::network_of))]
 fn network(alloc: Global, draft: Draft) -> Result<Network, AllocError>
@@ -63,23 +42,23 @@ fn network(alloc: Global, draft: Draft) -> Result<Network, AllocError>
 {
     let declared = draft.declared;
     let free = free_flags(alloc, &draft.freed, declared.interfaces.len())?;
-    let tables = empty_tables(alloc, declared.interfaces.as_slice())?;
     Ok(Network {
         areas: declared.areas,
         devices: declared.devices,
         interfaces: declared.interfaces,
         free: Items::from_vec(free),
         goals: declared.goals,
-        sas: Items::new(alloc),
-        tables: Items::from_vec(tables),
-        ipgoals: Items::new(alloc),
+        sas: declared.sas,
+        tables: declared.tables.into_items(),
+        ipgoals: declared.ipgoals,
         depth: declared.depth.unwrap_or(DEFAULT_DEPTH),
     })
 }
 
-/// The network that a text declares: areas, devices, interfaces, free slots and filtering goals
-/// (Guttman and Herzog, Rigorous automated network security management, 2005), at most 256 of each
-/// but for 1,024 interfaces, and a depth of 1 to 16.
+/// The network that a text declares: areas, devices, interfaces, free slots and filtering goals, and
+/// the IPsec part's security associations (RFC 4301), rules and goals (Guttman and Herzog, Rigorous
+/// automated network security management, 2005), at most 256 of each but for 1,024 interfaces and
+/// 4,096 rules, and a depth of 1 to 16.
 ///
 /// `Fault` comes where a line is faulty: the number of the first such line, counted from 1, and its
 /// first fault in the order of its words. `Memory` may come at any time.

@@ -12,7 +12,6 @@ use Rattle.np_report.specs.declared.refusals.Refusal.TheVariants.{TooLong, Net, 
 -- the word for what is wrong with a line of a network's text
 abbrev pub net_word : NetWhy → List ℕ
 net_word net.NotText = codes "NotText"
-net_word net.NotBuilt = codes "NotBuilt"
 net_word net.UnknownStatement = codes "UnknownStatement"
 net_word net.BadShape = codes "BadShape"
 net_word net.BadName = codes "BadName"

@@ -28,7 +28,6 @@ fn net_word(why: NetWhy) -> &'static [u8]
 {
     match why {
         NetWhy::NotText => b"NotText",
-        NetWhy::NotBuilt => b"NotBuilt",
         NetWhy::UnknownStatement => b"UnknownStatement",
         NetWhy::BadShape => b"BadShape",
         NetWhy::BadName => b"BadName",

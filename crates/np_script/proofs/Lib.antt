@@ -1,0 +1,4 @@
+pub mod LineReading
+pub mod SayingLaws
+pub mod ShapeLaws
+pub mod WordsBack

@@ -1,0 +1,5 @@
+pub mod Judging
+pub mod Saying
+pub mod Reading
+pub mod Fitting
+pub mod Written

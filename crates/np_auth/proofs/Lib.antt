@@ -1,0 +1,4 @@
+pub mod AnswerLaws
+pub mod LeastLaws
+pub mod SearchLaws
+pub mod SoundLaws

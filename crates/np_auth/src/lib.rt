@@ -1,0 +1,11 @@
+//! The local rules of authentication goals: what the tables of a network have to say at each interface, so that no packet can
+//! be forged on its way. Where they hold, no trajectory breaks the goal. No call takes memory.
+#![tactic(auto)]
+
+mod answers;
+mod checking;
+mod laws;
+
+pub use answers::{Answer, Broken};
+pub use checking::check_auth;
+pub use laws::{answers_are_unique, rules_are_sound};

@@ -7,3 +7,5 @@ mod net;
 mod net_read;
 #[cfg(test)]
 mod pred;
+#[cfg(test)]
+mod scripts;

@@ -1,0 +1,9 @@
+pub mod StackLaws
+pub mod RefusalLaws
+pub mod MotionLaws
+pub mod StartLaws
+pub mod SightLaws
+pub mod BreachLaws
+pub mod ReplayLaws
+pub mod StepLaws
+pub mod TravelLaws

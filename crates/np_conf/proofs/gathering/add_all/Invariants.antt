@@ -1,0 +1,5 @@
+use Rattle.np_conf.specs.Sets.{Adds, PutsBefore}
+use Rattle.np_conf.proofs.gathering.add_all.Given as goal
+
+abbrev pub invariant-loop-i : goal.invariant-loop-i
+invariant-loop-i l = Adds (PutsBefore l.net l.top l.i) l.fn.set l.set

@@ -1,0 +1,4 @@
+pub mod Rules
+pub mod Cuts
+pub mod Answers
+pub mod Sets

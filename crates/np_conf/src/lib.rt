@@ -1,0 +1,17 @@
+//! The local rules of IPsec confidentiality goals: what each interface's table has to say so that no packet can be read on its
+//! way.
+//!
+//! A goal's answer comes from the tables alone, each interface by itself; that it holds for whole trajectories, of any length and
+//! depth, is a law. The rules are local in the sense of Guttman and Herzog (Rigorous automated network security management, 2005).
+//! No call takes memory.
+#![tactic(auto)]
+
+mod answers;
+mod checking;
+mod gathering;
+mod laws;
+mod ways;
+
+pub use answers::{Answer, Broken};
+pub use checking::check_conf;
+pub use laws::{answers_are_unique, rules_are_sound};

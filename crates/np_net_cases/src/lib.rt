@@ -2,6 +2,8 @@
 #![tactic(auto)]
 
 #[cfg(test)]
+mod ipsec_read;
+#[cfg(test)]
 mod net;
 #[cfg(test)]
 mod net_read;

@@ -5,9 +5,11 @@ use Rattle.np_entry_read.specs.declared.fault.ConfigWhy.{ConfigWhy}
 use Rattle.np_entry_read.specs.declared.fault.ConfigWhy.TheVariants as config
 use Rattle.np_net_read.specs.declared.fault.NetWhy.{NetWhy}
 use Rattle.np_net_read.specs.declared.fault.NetWhy.TheVariants as net
+use Rattle.np_script.specs.declared.fault.ScriptWhy.{ScriptWhy}
+use Rattle.np_script.specs.declared.fault.ScriptWhy.TheVariants as script
 use Rattle.np_report.specs.Words.{text_of}
 use Rattle.np_report.specs.declared.refusals.Refusal.{Refusal}
-use Rattle.np_report.specs.declared.refusals.Refusal.TheVariants.{TooLong, Net, Config}
+use Rattle.np_report.specs.declared.refusals.Refusal.TheVariants.{TooLong, Net, Config, Script}
 
 -- the word for what is wrong with a line of a network's text
 abbrev pub net_word : NetWhy → List ℕ
@@ -35,6 +37,14 @@ config_word config.DuplicateSequence = codes "DuplicateSequence"
 config_word config.Negated = codes "Negated"
 config_word config.TooManyEntries = codes "TooManyEntries"
 
+-- the same of a script's
+abbrev pub script_word : ScriptWhy → List ℕ
+script_word script.NotText = codes "NotText"
+script_word script.NoStart = codes "NoStart"
+script_word script.BadMove = codes "BadMove"
+script_word script.UnknownName = codes "UnknownName"
+script_word script.BadNumber = codes "BadNumber"
+
 -- the words of a faulty line
 abbrev pub line_words : ℕ → List ℕ → List (List ℕ)
 line_words number why = codes "line" ∷ decimal number ∷ why ∷ []
@@ -44,6 +54,7 @@ abbrev pub refusal_words : Refusal → List (List ℕ)
 refusal_words TooLong = codes "too-long" ∷ []
 refusal_words (Net fault) = line_words fault.line (net_word fault.why)
 refusal_words (Config fault) = line_words fault.line (config_word fault.why)
+refusal_words (Script fault) = line_words fault.line (script_word fault.why)
 
 -- the text: one line
 abbrev pub refusal_text : List ℕ → Refusal → List ℕ

@@ -1,4 +1,4 @@
-//! The texts of reports and of refusals.
+//! The texts of refusals and of the reports on filtering.
 #![tactic(auto)]
 
 mod atoms;
@@ -14,3 +14,4 @@ pub use laws::runs_are_maximal;
 pub use refusals::{Refusal, put_refusal};
 pub use synthesis::{put_chosen, put_unattainable};
 pub use verdicts::put_verdicts;
+pub use words::{put_header, put_number_word, put_word};

@@ -9,6 +9,7 @@ ghost use Rattle.np_report.specs.Refusals.{refusal_text};
 use crate::words::{put_number_word, put_word};
 use np_acl_read::{ConfigFault, ConfigWhy};
 use np_net_read::{NetFault, NetWhy};
+use np_script::{ScriptFault, ScriptWhy};
 use np_text::put_bytes;
 use std::alloc::{AllocError, Global};
 
@@ -21,6 +22,8 @@ pub enum Refusal {
     Net(NetFault),
     /// It is a configuration, and a line is faulty.
     Config(ConfigFault),
+    /// It is a script, and a line is faulty.
+    Script(ScriptFault),
 }
 
 fn net_word(why: NetWhy) -> &'static [u8]
@@ -57,6 +60,18 @@ fn config_word(why: ConfigWhy) -> &'static [u8]
     }
 }
 
+fn script_word(why: ScriptWhy) -> &'static [u8]
+    ensures { result.now ≡ refusals.script_word why }
+{
+    match why {
+        ScriptWhy::NotText => b"NotText",
+        ScriptWhy::NoStart => b"NoStart",
+        ScriptWhy::BadMove => b"BadMove",
+        ScriptWhy::UnknownName => b"UnknownName",
+        ScriptWhy::BadNumber => b"BadNumber",
+    }
+}
+
 // Appends the words of a faulty line, each after a space.
 fn put_line_words(text: &mut Vec<u8>, number: u64, why: &[u8]) -> Result<(), AllocError>
     ensures { OnOk result (text.new.items ≡ text.old.items ++ spaced (refusals.line_words number why.now)) }
@@ -74,6 +89,7 @@ fn put_reason(text: &mut Vec<u8>, why: &Refusal) -> Result<(), AllocError>
         Refusal::TooLong => put_word(text, b"too-long"),
         Refusal::Net(fault) => put_line_words(text, fault.line, net_word(fault.why)),
         Refusal::Config(fault) => put_line_words(text, fault.line, config_word(fault.why)),
+        Refusal::Script(fault) => put_line_words(text, fault.line, script_word(fault.why)),
     }
 }
 

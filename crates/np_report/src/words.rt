@@ -14,8 +14,8 @@ use np_space::Header;
 use np_text::{put_address, put_number};
 use std::alloc::AllocError;
 
-// Appends a word after a space.
-pub(crate) fn put_word(text: &mut Vec<u8>, word: &[u8]) -> Result<(), AllocError>
+/// Appends a word after a space. Fails only for want of memory; a prefix of it may have been appended then.
+pub fn put_word(text: &mut Vec<u8>, word: &[u8]) -> Result<(), AllocError>
     ensures { OnOk result (text.new.items ≡ text.old.items ++ 32 ∷ word.now) }
 {
     text.push(b' ')?;
@@ -23,8 +23,8 @@ pub(crate) fn put_word(text: &mut Vec<u8>, word: &[u8]) -> Result<(), AllocError
     Ok(())
 }
 
-// Appends a number in decimal after a space.
-pub(crate) fn put_number_word(text: &mut Vec<u8>, value: u64) -> Result<(), AllocError>
+/// Appends a number in decimal after a space. Fails as `put_word` does.
+pub fn put_number_word(text: &mut Vec<u8>, value: u64) -> Result<(), AllocError>
     ensures { OnOk result (text.new.items ≡ text.old.items ++ 32 ∷ decimal value) }
 {
     text.push(b' ')?;
@@ -68,8 +68,8 @@ fn put_ends(text: &mut Vec<u8>, src: u32, dst: u32, proto: u8) -> Result<(), All
     put_number_word(text, u64::from(proto))
 }
 
-// Appends the words of a header, each after a space.
-pub(crate) fn put_header(text: &mut Vec<u8>, h: &Header) -> Result<(), AllocError>
+/// Appends the words of a header, each after a space. Fails as `put_word` does.
+pub fn put_header(text: &mut Vec<u8>, h: &Header) -> Result<(), AllocError>
     ensures { OnOk result (text.new.items ≡ text.old.items ++ spaced (header_words h.now)) }
 {
     put_ends(text, h.src, h.dst, h.proto)?;

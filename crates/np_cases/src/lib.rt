@@ -21,3 +21,5 @@ mod runs;
 mod show;
 #[cfg(test)]
 mod synth;
+#[cfg(test)]
+mod trace;

@@ -154,6 +154,36 @@ line vty 0 4
 end
 ";
 
+/// Two trusted areas with a guard before each, and a network between them whose device isn't trusted.
+const GUARDED: &str = "area x 10.1.0.0/16 trusted
+area net 0.0.0.0/0
+area y 10.2.0.0/16 trusted
+device gx trusted
+device gy trusted
+device w
+interface gx e0 x
+interface gx e1 net
+interface gy e0 net
+interface gy e1 y
+";
+
+/// What the guards do with the association between them, and goals that its packets are authentic and confidential.
+const GUARDS: &str = "sa u ah w gy
+pop gy e0 t
+inrule gx e0 bypass unmarked plain and src x dst y
+outrule gx e1 protect t plain and src x dst y
+outrule gx e1 bypass under t
+inrule gy e0 bypass popped t plain and src x dst y
+outrule gy e1 bypass plain and src x dst y
+auth x y src x
+conf x dst y
+";
+
+/// The two guarded areas with these lines before all others, and an association of this kind between the guards.
+pub(crate) fn guarded(alloc: Global, first: &str, kind: &str) -> Result<String, AllocError> {
+    format!(in alloc; "{first}{GUARDED}sa t {kind} gx gy\n{GUARDS}")
+}
+
 /// The two areas with a configuration for the device, and this goal from the first area to the second.
 pub(crate) fn filtered(alloc: Global, goal: &str) -> Result<String, AllocError> {
     format!(in alloc; "{FILTERED}goal out lan {goal}\n")

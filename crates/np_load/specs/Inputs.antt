@@ -6,7 +6,8 @@ use Rattle.np_acl_read.specs.declared.config.Config.{Config}
 use Rattle.np_acl_read.specs.Groups.{no_groups}
 use Rattle.np_net.specs.Plan.{Plan}
 use Rattle.np_net.specs.declared.filtering.Device.{Device}
-use Rattle.np_load.specs.Saying.{net_says, config_says, and_then}
+use Rattle.np_script.specs.declared.script.Script.{Script}
+use Rattle.np_load.specs.Saying.{net_says, config_says, script_says, and_then}
 
 -- a network, and the configurations of its devices in their order
 pub record Inputs : Type 0 where
@@ -31,3 +32,13 @@ configs_say files (device ∷ devices) =
 abbrev pub inputs_of : Files → List ℕ → Option (Result Inputs (List ℕ))
 inputs_of files file =
     and_then (net_says files file) (λ net. and_then (configs_say files net.devices) (λ configs. Some (Ok (record { net = net; configs = configs }))))
+
+-- a network, and a script for it
+pub record Play : Type 0 where
+  pub net : Plan
+  pub script : Script
+
+-- what the files of a replay say: the network's, and then the script's
+abbrev pub play_of : Files → List ℕ → List ℕ → Option (Result Play (List ℕ))
+play_of files file script =
+    and_then (net_says files file) (λ net. and_then (script_says files net script) (λ s. Some (Ok (record { net = net; script = s }))))

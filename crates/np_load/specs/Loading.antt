@@ -8,7 +8,8 @@ use Rattle.np_report.specs.Refusals.{refusal_text}
 use Rattle.np_load.specs.declared.halt.Halt.{Halt}
 use Rattle.np_load.specs.declared.halt.Halt.TheVariants as halts
 use Rattle.np_load.specs.declared.inputs.Inputs as loaded
-use Rattle.np_load.specs.Inputs.{Inputs}
+use Rattle.np_load.specs.declared.plays.Play as played
+use Rattle.np_load.specs.Inputs.{Inputs, Play}
 
 -- what was loaded is what is said, and a refusal is the one that is said; a fault and want of memory say nothing
 abbrev pub LoadsAs : {X Y : Type 0} → (X → Y) → Result X Halt → Option (Result Y (List ℕ)) → Type 0
@@ -24,6 +25,10 @@ Loads result says = LoadsAs (λ x. x) result says
 -- inputs as the program holds them
 abbrev pub inputs_in : loaded.Inputs → Inputs
 inputs_in inputs = record { net = inputs.net; configs = inputs.configs.items }
+
+-- a network and a script as the program holds them
+abbrev pub play_in : played.Play → Play
+play_in play = record { net = play.net; script = play.script }
 
 -- a text that isn't read halts the run: with the line that refuses it, or for want of memory
 abbrev pub HaltsBy : {W : Type 0} → (LineFault W → Refusal) → List ℕ → TextError W → Halt → Type 0

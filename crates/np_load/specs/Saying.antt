@@ -7,6 +7,8 @@ use Rattle.np_net.specs.Plan.{Plan}
 use Rattle.np_net_read.specs.Reading.{net_of}
 use Rattle.np_acl_read.specs.declared.config.Config.{Config}
 use Rattle.np_acl_read.specs.Reading.{config_of}
+use Rattle.np_script.specs.Reading.{script_of}
+use Rattle.np_script.specs.declared.script.Script.{Script}
 use Rattle.np_report.specs.declared.refusals.Refusal.{Refusal}
 use Rattle.np_report.specs.declared.refusals.Refusal.TheVariants as refusal
 use Rattle.np_report.specs.Refusals.{refusal_text}
@@ -29,6 +31,10 @@ net_says files file = file_says refusal.Net net_of files file
 -- the configuration that a file declares
 abbrev pub config_says : Files → List ℕ → Option (Result Config (List ℕ))
 config_says files file = file_says refusal.Config config_of files file
+
+-- the script that a file has for a network
+abbrev pub script_says : Files → Plan → List ℕ → Option (Result Script (List ℕ))
+script_says files net file = file_says refusal.Script (script_of net) files file
 
 -- The first file that is refused, or isn't there, decides.
 abbrev pub and_then : {X Y : Type 0} → Option (Result X (List ℕ)) → (X → Option (Result Y (List ℕ))) → Option (Result Y (List ℕ))

@@ -1,16 +1,17 @@
-//! Reading one file: a network's, or a device's configuration.
+//! Reading one file: a network's, a device's configuration, or a script.
 
 ghost use Rattle.std.specs.Prelude.{◌≡◌, ◌≤◌, ◌<◌, ℕ, Some, IfOk, IsErrOf, IsSome, IsSomeAnd, List, length, vec_len};
 ghost use Rattle.std.specs.FinMap.{get};
 ghost use Rattle.np_outside.specs.Counts.{Rose};
 ghost use Rattle.np_outside.specs.Files.{Files};
+ghost use Rattle.np_script.specs.Fitting.{Fits};
 ghost use Rattle.np_report.specs.declared.refusals.Refusal.TheVariants as refusals;
 ghost use Rattle.np_report.specs.Refusals.{refusal_text};
 ghost use Rattle.np_load.specs.declared.halt.Halt.TheVariants as halts;
 ghost use Rattle.np_load.specs.Keeping.{KeepsShelf};
 ghost use Rattle.np_load.specs.Limits.{file_limit};
 ghost use Rattle.np_load.specs.Loading.{Loads, HaltsBy};
-ghost use Rattle.np_load.specs.Saying.{net_says, config_says};
+ghost use Rattle.np_load.specs.Saying.{net_says, config_says, script_says};
 
 use crate::halt::Halt;
 use np_acl_read::{Config, ConfigError, read_config};
@@ -18,6 +19,7 @@ use np_net::Network;
 use np_net_read::{NetError, read_net};
 use np_outside::{ReadError, Shelf, read_file};
 use np_report::{Refusal, put_refusal};
+use np_script::{Script, ScriptError, read_script};
 use sqlite_items::Items;
 use std::alloc::{AllocError, Global};
 
@@ -73,6 +75,16 @@ fn config_halt(alloc: Global, file: &[u8], error: ConfigError) -> Result<Halt, A
     }
 }
 
+/// Why a text is no script: its fault as the line that is written.
+fn script_halt(alloc: Global, file: &[u8], error: ScriptError) -> Result<Halt, AllocError>
+    ensures { IfOk result (λ halt. HaltsBy refusals.Script file.now error halt) }
+{
+    match error {
+        ScriptError::Fault(fault) => refused(alloc, file, &Refusal::Script(fault)),
+        ScriptError::Memory(_) => Ok(Halt::Memory),
+    }
+}
+
 /// The network that a file declares.
 ///
 /// Ends with `Refused` where the file has more than 16,777,216 bytes or a line that is refused, with `ReadFault` where a
@@ -109,5 +121,27 @@ pub(crate) fn load_config_file<S: Shelf>(
     match read_config(alloc, bytes.as_slice()) {
         Ok(config) => Ok(config),
         Err(error) => Err(config_halt(alloc, file, error)?),
+    }
+}
+
+/// The script that a file has for a network.
+pub(crate) fn load_script<S: Shelf>(
+    alloc: Global,
+    shelf: &mut S,
+    net: &Network,
+    file: &[u8],
+) -> Result<Script, Halt>
+    ensures says { (files : Files) → S.files shelf.old ≡ Some files → Loads result (script_says files net.now file.now) }
+    ensures fits { IfOk result (λ script. Fits net.now script) }
+
+    ensures failed { IsErrOf result Halt.ReadFault → Rose (S.faults shelf.old) (S.faults shelf.new) }
+    ensures broken { IsErrOf result Halt.ReadFault → (files : Files) → S.files shelf.old ≡ Some files →
+        IsSome (script_says files net.now file.now) → Rose (S.breaks shelf.old) (S.breaks shelf.new) }
+    ensures kept { KeepsShelf S.files S.cap S.faults S.breaks shelf.old shelf.new }
+{
+    let bytes = load_bytes(alloc, shelf, file)?;
+    match read_script(alloc, net, bytes.as_slice()) {
+        Ok(script) => Ok(script),
+        Err(error) => Err(script_halt(alloc, file, error)?),
     }
 }

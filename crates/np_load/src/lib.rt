@@ -1,10 +1,12 @@
-//! The files that a run reads: a network's, and the configurations of its devices.
+//! The files that a run reads: a network's, the configurations of its devices, and scripts.
 #![tactic(auto)]
 
 mod files;
 mod halt;
 mod inputs;
+mod plays;
 
 pub use files::load_net;
 pub use halt::Halt;
 pub use inputs::{Inputs, load_inputs};
+pub use plays::{Play, load_play};

@@ -17,16 +17,17 @@ use Rattle.np_goals.specs.declared.verdicts.Verdict.TheVariants.{Holds}
 use Rattle.np_goals.proofs.ExistenceLaws.{have_leasts, have_verdicts}
 use Rattle.np_report.specs.Atoms.{atoms_text}
 use Rattle.np_report.specs.Verdicts.{verdicts_text}
-use Rattle.np_load.specs.Inputs.{inputs_of}
+use Rattle.np_load.specs.Inputs.{inputs_of, play_of}
 use Rattle.np_load.specs.Saying.{net_says}
 use Rattle.np_top.specs.declared.status.Status.{Status}
 use Rattle.np_top.specs.declared.status.Status.TheVariants.{Usage, Refused}
 use Rattle.np_top.specs.declared.status.Status.TheVariants as status
-use Rattle.np_top.specs.Commands.{Command, check, atoms, synth, show, command_of}
-use Rattle.np_top.specs.Outcome.{IsAnswer, IsAnswerTo, IsCheckReportOn, IsAtomsReportOn, IsSynthesisReportOn, HasFiles, IsOutcome, IsDefined}
+use Rattle.np_top.specs.Commands.{Command, check, atoms, synth, trace, show, command_of}
+use Rattle.np_top.specs.Outcome.{IsAnswer, IsAnswerTo, IsCheckReportOn, IsAtomsReportOn, IsSynthesisReportOn, IsTraceReportOn, HasFiles, IsOutcome, IsDefined}
 use Rattle.np_top.specs.Report.{usage_text, IsCheckReport, IsAtomsReport, cuts_of, verdicts_status}
 use Rattle.np_top.specs.Show.{IsCanonical}
 use Rattle.np_top.proofs.SynthesisLaws.{a_synthesis_report}
+use Rattle.np_top.proofs.TraceLaws.{a_trace_report, play_fits}
 
 -- right verdicts on goals, one for each
 record Verdicts (interfaces : List Interface) (lets : ℕ → Header → Bool) (goals : List Goal) : Type 0 where
@@ -62,16 +63,18 @@ an_atoms_report net configs =
       record { leasts = found.0; least = found.1; text_is = refl; status_is = refl },
     )
 
-an_answer : {X : Type 0} (Is : X → List ℕ → Status → Type 0) → ((x : X) → There (Is x)) → (says : Option (Result X (List ℕ))) → IsSome says → There (IsAnswer Is says)
-an_answer Is some None there = absurd (cc)
-an_answer Is some (Some (Err refusal)) there = (refusal, Refused, (refl, refl))
-an_answer Is some (Some (Ok x)) there = some x
+an_answer : {X : Type 0} (Is : X → List ℕ → Status → Type 0) (says : Option (Result X (List ℕ))) → ((x : X) → says ≡ Some (Ok x) → There (Is x)) → IsSome says → There (IsAnswer Is says)
+an_answer Is None some there = absurd (cc)
+an_answer Is (Some (Err refusal)) some there = (refusal, Refused, (refl, refl))
+an_answer Is (Some (Ok x)) some there = some x refl
 
 an_answer_to : (files : Files) (command : Command) → HasFiles files command → There (IsAnswerTo files command)
-an_answer_to files (check file) there = an_answer IsCheckReportOn (λ inputs. a_check_report inputs.net inputs.configs) (inputs_of files file) there
-an_answer_to files (atoms file) there = an_answer IsAtomsReportOn (λ inputs. an_atoms_report inputs.net inputs.configs) (inputs_of files file) there
-an_answer_to files (synth file) there = an_answer IsSynthesisReportOn (λ inputs. a_synthesis_report inputs.net inputs.configs) (inputs_of files file) there
-an_answer_to files (show file) there = an_answer IsCanonical (λ net. (net_text net, status.Holds, (refl, refl))) (net_says files file) there
+an_answer_to files (check file) there = an_answer IsCheckReportOn (inputs_of files file) (λ inputs said. a_check_report inputs.net inputs.configs) there
+an_answer_to files (atoms file) there = an_answer IsAtomsReportOn (inputs_of files file) (λ inputs said. an_atoms_report inputs.net inputs.configs) there
+an_answer_to files (synth file) there = an_answer IsSynthesisReportOn (inputs_of files file) (λ inputs said. a_synthesis_report inputs.net inputs.configs) there
+an_answer_to files (trace file script) there =
+    an_answer IsTraceReportOn (play_of files file script) (λ play said. a_trace_report play.net play.script (play_fits files file script play said)) there
+an_answer_to files (show file) there = an_answer IsCanonical (net_says files file) (λ net said. (net_text net, status.Holds, (refl, refl))) there
 
 pub an_outcome : (words : List (List ℕ)) (files : Files) → IsDefined words files → There (IsOutcome words files)
 an_outcome words files there = by (command_of words) there where

@@ -4,3 +4,4 @@ mod Outcomes
 mod Reports
 mod SynthesisLaws
 mod Synthesising
+mod TraceLaws

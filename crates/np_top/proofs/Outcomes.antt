@@ -5,19 +5,21 @@ use Rattle.np_outside.specs.Files.{Files}
 use Rattle.np_top.specs.declared.status.Status.{Status}
 use Rattle.np_top.specs.declared.status.Status.TheVariants.{Holds, Fails, Usage, Refused, ReadFault, WriteFault, Memory}
 use Rattle.np_net.specs.Plan.{Plan}
-use Rattle.np_top.specs.Commands.{Command, check, atoms, synth, show, command_of}
+use Rattle.np_script.specs.Fitting.{Fits}
+use Rattle.np_top.specs.Commands.{Command, check, atoms, synth, trace, show, command_of}
 use Rattle.np_top.specs.Report.{usage_text, verdicts_status}
 use Rattle.np_goals.specs.declared.verdicts.Verdict.{Verdict}
 use Rattle.np_report.specs.Verdicts.{all_hold}
-use Rattle.np_load.specs.Inputs.{Inputs, inputs_of}
+use Rattle.np_load.specs.Inputs.{Inputs, Play, inputs_of, play_of}
 use Rattle.np_load.specs.Saying.{net_says}
-use Rattle.np_top.specs.Outcome.{IsAnswer, IsAnswerTo, IsCheckReportOn, IsAtomsReportOn, IsSynthesisReportOn, HasFiles, IsAccepted, AcceptsFiles, AreAccepted, IsOutcome, IsDefined, IsMaximalOn, IsMaximalFor, IsMaximalOutcome, IsOneOutcome}
+use Rattle.np_top.specs.Outcome.{IsAnswer, IsAnswerTo, IsCheckReportOn, IsAtomsReportOn, IsSynthesisReportOn, IsTraceReportOn, HasFiles, IsAccepted, AcceptsFiles, AreAccepted, IsOutcome, IsDefined, IsMaximalOn, IsMaximalFor, IsMaximalOutcome, IsTrajectoryOn, IsTrajectoryFor, IsTrajectoryOutcome, IsOneOutcome}
 use Rattle.np_top.specs.Show.{IsCanonical}
 use Rattle.np_top.specs.Status.{IsReport, IsSettled, IsUnlessFault}
 use Rattle.np_top.specs.Written.{Took, TookPrefix}
 use Rattle.np_top.proofs.Existing.{an_outcome}
 use Rattle.np_top.proofs.OneReport.{Same, one_check_report, one_atoms_report}
 use Rattle.np_top.proofs.SynthesisLaws.{one_synthesis_report, synthesis_reported, holds_is_maximal}
+use Rattle.np_top.proofs.TraceLaws.{one_trace_report, play_fits, trace_is_trajectory, trace_reported}
 
 one_canonical : (net : Plan) (s t : List ℕ) (x y : Status) → IsCanonical net s x → IsCanonical net t y → Same s x t y
 one_canonical net s t x y a b = (a.0 ∙ sym b.0, a.1 ∙ sym b.1)
@@ -35,6 +37,8 @@ one_answer_to files (atoms file) s t x y a b =
     one_answer IsAtomsReportOn (λ inputs s t x y a b. one_atoms_report inputs.net inputs.configs s t x y a b) (inputs_of files file) s t x y a b
 one_answer_to files (synth file) s t x y a b =
     one_answer IsSynthesisReportOn (λ inputs s t x y a b. one_synthesis_report inputs.net inputs.configs s t x y a b) (inputs_of files file) s t x y a b
+one_answer_to files (trace file script) s t x y a b =
+    one_answer IsTraceReportOn (λ play s t x y a b. one_trace_report play.net play.script s t x y a b) (play_of files file script) s t x y a b
 one_answer_to files (show file) s t x y a b = one_answer IsCanonical one_canonical (net_says files file) s t x y a b
 
 -- two outcomes of the same words and files are the same text and status
@@ -54,6 +58,7 @@ has_files : (files : Files) (command : Command) (text : List ℕ) (status : Stat
 has_files files (check file) text status answer = defined_by IsCheckReportOn (inputs_of files file) text status answer
 has_files files (atoms file) text status answer = defined_by IsAtomsReportOn (inputs_of files file) text status answer
 has_files files (synth file) text status answer = defined_by IsSynthesisReportOn (inputs_of files file) text status answer
+has_files files (trace file script) text status answer = defined_by IsTraceReportOn (play_of files file script) text status answer
 has_files files (show file) text status answer = defined_by IsCanonical (net_says files file) text status answer
 
 -- an outcome needs its files
@@ -137,6 +142,8 @@ reported files (atoms file) text status accepted is =
     answer_reported IsAtomsReportOn (λ inputs text status is. subst IsReport (sym is.status_is) tt) (inputs_of files file) text status accepted is
 reported files (synth file) text status accepted is =
     answer_reported IsSynthesisReportOn (λ inputs text status is. synthesis_reported inputs.net inputs.configs text status is) (inputs_of files file) text status accepted is
+reported files (trace file script) text status accepted is =
+    answer_reported IsTraceReportOn (λ play text status is. trace_reported play.net play.script text status is) (play_of files file script) text status accepted is
 reported files (show file) text status accepted is =
     answer_reported IsCanonical (λ net text status is. subst IsReport (sym is.1) tt) (net_says files file) text status accepted is
 
@@ -149,6 +156,7 @@ pub accepted_files : (files : Files) (command : Command) → AcceptsFiles files 
 accepted_files files (check file) accepted = accepted_there (inputs_of files file) accepted
 accepted_files files (atoms file) accepted = accepted_there (inputs_of files file) accepted
 accepted_files files (synth file) accepted = accepted_there (inputs_of files file) accepted
+accepted_files files (trace file script) accepted = accepted_there (play_of files file script) accepted
 accepted_files files (show file) accepted = accepted_there (net_says files file) accepted
 
 -- the outcome of a command whose files are accepted
@@ -188,6 +196,7 @@ pub maximal_for : (files : Files) (command : Command) (text : List ℕ) → IsAn
 maximal_for files (check file) text answer = tt
 maximal_for files (atoms file) text answer = tt
 maximal_for files (synth file) text answer = maximal_on (inputs_of files file) text answer
+maximal_for files (trace file script) text answer = tt
 maximal_for files (show file) text answer = tt
 
 -- what is written whole with this status is such a text
@@ -199,3 +208,34 @@ written_maximal files command result old new is w = (w.0, maximal_for files comm
 pub maximal_command : (words : List (List ℕ)) (files : Files) (command : Command) (old new : Option (List ℕ)) → Some command ≡ command_of words →
     (text : List ℕ) × IsMaximalFor files command text × Took old new text → (text : List ℕ) × IsMaximalOutcome words files text × Took old new text
 maximal_command words files command old new fits w = (w.0, rw (← fits) w.1, w.2)
+
+-- ---- a replay whose report is written
+
+-- a line that refuses a file is no report
+refused_only : {A : Type 0} (status : Status) → status ≡ Refused → IsReport status → A
+refused_only status refused report = absurd (subst IsReport refused report)
+
+-- what is to be written of a replay with the status of a report is the text of a trajectory
+trajectory_on : (says : Option (Result Play (List ℕ))) (text : List ℕ) (status : Status) → ((play : Play) → says ≡ Some (Ok play) → Fits play.net play.script) → IsReport status →
+    IsAnswer IsTraceReportOn says text status → IsTrajectoryOn says text
+trajectory_on None text status fits report answer = absurd answer
+trajectory_on (Some (Err refusal)) text status fits report answer = refused_only status answer.1 report
+trajectory_on (Some (Ok play)) text status fits report answer = trace_is_trajectory play.net play.script text status (fits play refl) answer
+
+-- so it is for any command
+pub trajectory_for : (files : Files) (command : Command) (text : List ℕ) (status : Status) → IsReport status → IsAnswerTo files command text status → IsTrajectoryFor files command text
+trajectory_for files (check file) text status report answer = tt
+trajectory_for files (atoms file) text status report answer = tt
+trajectory_for files (synth file) text status report answer = tt
+trajectory_for files (trace file script) text status report answer = trajectory_on (play_of files file script) text status (play_fits files file script) report answer
+trajectory_for files (show file) text status report answer = tt
+
+-- what is written whole with such a status is such a text
+pub written_trajectory : (files : Files) (command : Command) (result : Status) (old new : Option (List ℕ)) → IsReport result →
+    (text : List ℕ) × IsAnswerTo files command text result × Took old new text → (text : List ℕ) × IsTrajectoryFor files command text × Took old new text
+written_trajectory files command result old new report w = (w.0, trajectory_for files command w.0 result report w.1, w.2)
+
+-- what is a trajectory's for a command is so for its words
+pub trajectory_command : (words : List (List ℕ)) (files : Files) (command : Command) (old new : Option (List ℕ)) → Some command ≡ command_of words →
+    (text : List ℕ) × IsTrajectoryFor files command text × Took old new text → (text : List ℕ) × IsTrajectoryOutcome words files text × Took old new text
+trajectory_command words files command old new fits w = (w.0, rw (← fits) w.1, w.2)

@@ -1,6 +1,7 @@
 pub mod Show
 pub mod Report
 pub mod Synthesis
+pub mod Trace
 pub mod Commands
 pub mod Outcome
 pub mod Status

@@ -3,14 +3,15 @@ use Rattle.std.specs.Prelude.{◌≡◌, ℕ, List, Option, Some, None, Result, 
 use Rattle.std.specs.String.{string_bytes}
 use Rattle.std.specs.declared.alloc.Global.{Global}
 use Rattle.np_outside.specs.Files.{Files}
-use Rattle.np_load.specs.Inputs.{Inputs, inputs_of}
+use Rattle.np_load.specs.Inputs.{Inputs, Play, inputs_of, play_of}
 use Rattle.np_load.specs.Saying.{net_says}
 use Rattle.np_top.specs.declared.status.Status.{Status}
 use Rattle.np_top.specs.declared.status.Status.TheVariants.{Usage, Refused}
-use Rattle.np_top.specs.Commands.{Command, check, atoms, synth, show, command_of}
+use Rattle.np_top.specs.Commands.{Command, check, atoms, synth, trace, show, command_of}
 use Rattle.np_top.specs.Report.{usage_text, IsCheckReport, IsAtomsReport}
 use Rattle.np_top.specs.Show.{IsCanonical}
 use Rattle.np_top.specs.Synthesis.{IsSynthesisReport, IsMaximalText}
+use Rattle.np_top.specs.Trace.{IsTraceReport, IsTrajectoryText}
 
 -- the report on the goals, of these inputs
 abbrev pub IsCheckReportOn : Inputs → List ℕ → Status → Type 0
@@ -24,6 +25,10 @@ IsAtomsReportOn inputs text status = IsAtomsReport inputs.net inputs.configs tex
 abbrev pub IsSynthesisReportOn : Inputs → List ℕ → Status → Type 0
 IsSynthesisReportOn inputs text status = IsSynthesisReport inputs.net inputs.configs text status
 
+-- the report on a replay, of this network and this script
+abbrev pub IsTraceReportOn : Play → List ℕ → Status → Type 0
+IsTraceReportOn play text status = IsTraceReport play.net play.script text status
+
 -- the text and the status that answer to what files say: the line of the first refusal, or what is to be written of what they declare
 abbrev pub IsAnswer : {X : Type 0} → (X → List ℕ → Status → Type 0) → Option (Result X (List ℕ)) → List ℕ → Status → Type 0
 IsAnswer Is None text status = ⊥
@@ -35,6 +40,7 @@ abbrev pub IsAnswerTo : Files → Command → List ℕ → Status → Type 0
 IsAnswerTo files (check file) text status = IsAnswer IsCheckReportOn (inputs_of files file) text status
 IsAnswerTo files (atoms file) text status = IsAnswer IsAtomsReportOn (inputs_of files file) text status
 IsAnswerTo files (synth file) text status = IsAnswer IsSynthesisReportOn (inputs_of files file) text status
+IsAnswerTo files (trace file script) text status = IsAnswer IsTraceReportOn (play_of files file script) text status
 IsAnswerTo files (show file) text status = IsAnswer IsCanonical (net_says files file) text status
 
 -- each file that a command needs is there, up to the first one that is refused
@@ -42,6 +48,7 @@ abbrev pub HasFiles : Files → Command → Type 0
 HasFiles files (check file) = IsSome (inputs_of files file)
 HasFiles files (atoms file) = IsSome (inputs_of files file)
 HasFiles files (synth file) = IsSome (inputs_of files file)
+HasFiles files (trace file script) = IsSome (play_of files file script)
 HasFiles files (show file) = IsSome (net_says files file)
 
 -- The text and the status are the outcome of these words and files. There is none where a file that is needed isn't there.
@@ -64,6 +71,7 @@ abbrev pub AcceptsFiles : Files → Command → Type 0
 AcceptsFiles files (check file) = IsAccepted (inputs_of files file)
 AcceptsFiles files (atoms file) = IsAccepted (inputs_of files file)
 AcceptsFiles files (synth file) = IsAccepted (inputs_of files file)
+AcceptsFiles files (trace file script) = IsAccepted (play_of files file script)
 AcceptsFiles files (show file) = IsAccepted (net_says files file)
 
 -- The words fit a command, and all its files are there, within their limit and in their grammars.
@@ -81,11 +89,30 @@ abbrev pub IsMaximalFor : Files → Command → List ℕ → Type 0
 IsMaximalFor files (check file) text = Unit {0}
 IsMaximalFor files (atoms file) text = Unit {0}
 IsMaximalFor files (synth file) text = IsMaximalOn (inputs_of files file) text
+IsMaximalFor files (trace file script) text = Unit {0}
 IsMaximalFor files (show file) text = Unit {0}
 
 -- Where the words are those of a synthesis, the text is that of a maximal posture.
 abbrev pub IsMaximalOutcome : List (List ℕ) → Files → List ℕ → Type 0
 IsMaximalOutcome words files text = MatchOption (command_of words) (Unit {0}) (λ command. IsMaximalFor files command text)
+
+-- what files say is a network and a script, and the text is that of a trajectory
+abbrev pub IsTrajectoryOn : Option (Result Play (List ℕ)) → List ℕ → Type 0
+IsTrajectoryOn None text = ⊥
+IsTrajectoryOn (Some (Err refusal)) text = ⊥
+IsTrajectoryOn (Some (Ok play)) text = IsTrajectoryText play.net text
+
+-- for a replay whose report is written: the states are a trajectory
+abbrev pub IsTrajectoryFor : Files → Command → List ℕ → Type 0
+IsTrajectoryFor files (check file) text = Unit {0}
+IsTrajectoryFor files (atoms file) text = Unit {0}
+IsTrajectoryFor files (synth file) text = Unit {0}
+IsTrajectoryFor files (trace file script) text = IsTrajectoryOn (play_of files file script) text
+IsTrajectoryFor files (show file) text = Unit {0}
+
+-- Where the words are those of a replay, the text is that of a trajectory.
+abbrev pub IsTrajectoryOutcome : List (List ℕ) → Files → List ℕ → Type 0
+IsTrajectoryOutcome words files text = MatchOption (command_of words) (Unit {0}) (λ command. IsTrajectoryFor files command text)
 
 -- There is one outcome at most, and there is one exactly where the files that it needs are there.
 pub record IsOneOutcome : Type 0 where

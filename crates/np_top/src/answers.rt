@@ -16,27 +16,32 @@ ghost use Rattle.np_top.specs.Commands.{command_in};
 ghost use Rattle.np_load.specs.declared.halt.Halt.{Halt as Ended};
 ghost use Rattle.np_load.specs.declared.halt.Halt.TheVariants as halts;
 ghost use Rattle.np_load.specs.Keeping.{KeepsShelf};
-ghost use Rattle.np_load.specs.Loading.{inputs_in};
+ghost use Rattle.np_load.specs.Loading.{inputs_in, play_in};
 ghost use Rattle.np_top.specs.Replying.{Replies};
-ghost use Rattle.np_top.specs.Outcome.{IsAnswerTo, IsAtomsReportOn, IsCheckReportOn, IsSynthesisReportOn, HasFiles};
+ghost use Rattle.np_top.specs.Outcome.{IsAnswerTo, IsAtomsReportOn, IsCheckReportOn, IsSynthesisReportOn, IsTraceReportOn, HasFiles};
 ghost use Rattle.np_top.specs.Synthesis.{IsSynthesisReport};
+ghost use Rattle.np_top.specs.Trace.{IsTraceReport};
+ghost use Rattle.np_script.specs.Fitting.{Fits};
 ghost use Rattle.np_top.specs.Show.{IsCanonical};
 ghost use Rattle.np_top.specs.Status.{IsSettled};
 
 use crate::commands::Command;
 use crate::report::{
-    Answer, atoms_report, canonical, chosen_report, unattainable_report, verdicts_report,
+    Answer, atoms_report, canonical, chosen_report, replay_report, unattainable_report,
+    verdicts_report,
 };
 use crate::status::Status;
 use np_acl_read::Config;
 use np_atomizer::{Atoms, atomize};
 use np_cut::{Applied, apply, filter_cuts};
 use np_goals::{Verdict, case_of, judge};
-use np_load::{Halt, Inputs, load_inputs, load_net};
+use np_load::{Halt, Inputs, Play, load_inputs, load_net, load_play};
 use np_net::Network;
 use np_outside::Shelf;
 use np_region::Regions;
+use np_script::Script;
 use np_synth::{SynthError, synthesise};
+use np_traj::replay;
 use sqlite_items::Items;
 use std::alloc::{AllocError, Global};
 
@@ -140,6 +145,51 @@ fn synth<G: Regions>(alloc: Global, store: &mut G, inputs: Inputs) -> Result<Ans
     synthesis(alloc, store, &net, configs)
 }
 
+/// The report on a replay at the depth `N`, which is the network's.
+fn trace_at<const N: usize>(
+    alloc: Global,
+    net: &Network,
+    script: &Script,
+) -> Result<Answer, AllocError>
+    requires depth { net.now.depth ≡ N }
+    requires fits { Fits net.now script.now }
+    ensures { IfOk result (λ answer. IsTraceReport net.now script.now answer.text answer.status) }
+{
+    // What is known of every network bounds its depth.
+    let _ = &net.ipgoals;
+    let replay = replay::<N>(alloc, net, script)?;
+    replay_report(alloc, net, &replay)
+}
+
+/// The report on a replay at the network's depth, which is one of these.
+macro_rules! trace_by_depth {
+    ($alloc:expr, $net:expr, $script:expr; $($depth:literal)*) => {
+        match $net.depth {
+            $($depth => trace_at::<$depth>($alloc, $net, $script),)*
+            _ => unreachable!(),
+        }
+    };
+}
+
+/// The report on a replay.
+fn trace_script(alloc: Global, net: &Network, script: &Script) -> Result<Answer, AllocError>
+    requires { Fits net.now script.now }
+    ensures { IfOk result (λ answer. IsTraceReport net.now script.now answer.text answer.status) }
+{
+    trace_by_depth!(alloc, net, script; 1 2 3 4 5 6 7 8 9 10 11 12 13 14 15 16)
+}
+
+/// The answer to `trace`: the report on a replay.
+#[tactic(auto, using(crate::proofs::TraceLaws::trace_settled))]
+fn trace(alloc: Global, play: Play) -> Result<Answer, AllocError>
+    requires { Fits play.net play.script }
+    ensures report { IfOk result (λ answer. IsTraceReportOn (play_in play) answer.text answer.status) }
+    ensures settled { IfOk result (λ answer. IsSettled answer.status × (answer.status ≢ Status.Usage)) }
+{
+    let Play { net, script } = play;
+    trace_script(alloc, &net, &script)
+}
+
 /// The answer to `show`: the network's canonical text.
 fn show(alloc: Global, net: Network) -> Result<Answer, AllocError>
     ensures report { IfOk result (λ answer. IsCanonical net answer.text answer.status) }
@@ -176,6 +226,10 @@ fn answer<G: Regions, S: Shelf>(
         Command::Synth(file) => {
             let inputs = load_inputs(alloc, shelf, file)?;
             synth(alloc, store, inputs)
+        }
+        Command::Trace(file, script) => {
+            let play = load_play(alloc, shelf, file, script)?;
+            Ok(trace(alloc, play)?)
         }
         Command::Show(file) => {
             let net = load_net(alloc, shelf, file)?;

@@ -8,17 +8,22 @@ ghost use Rattle.np_report.specs.Atoms.{atoms_text};
 ghost use Rattle.np_report.specs.Verdicts.{HasInterfaces, is_holding, verdicts_text};
 ghost use Rattle.np_report.specs.Verdicts as verdict_texts;
 ghost use Rattle.np_report.specs.Synthesis.{AreInOrder, HopsWithin, chosen_text, unattainable_text};
+ghost use Rattle.np_traj.specs.States.{IsStateOf};
+ghost use Rattle.np_ipsec_report.specs.Replays.{replay_text};
 ghost use Rattle.np_top.specs.Report.{verdicts_status};
+ghost use Rattle.np_top.specs.Trace.{replay_status};
 
 use crate::status::Status;
 use np_atomizer::Atoms;
 use np_cut::Applied;
 use np_goals::Verdict;
+use np_ipsec_report::put_replay;
 use np_net::{Network, Path};
 use np_net_read::put_net;
 use np_report::{put_atoms, put_chosen, put_unattainable, put_verdicts};
 use np_space::Header;
 use np_synth::Chosen;
+use np_traj::Replayed;
 use sqlite_items::Items;
 use std::alloc::{AllocError, Global};
 
@@ -137,5 +142,29 @@ pub fn unattainable_report(
     Ok(Answer {
         text: Items::from_vec(text),
         status: Status::Fails,
+    })
+}
+
+/// The report on a replay.
+pub fn replay_report<const N: usize>(
+    alloc: Global,
+    net: &Network,
+    replay: &Replayed<N>,
+) -> Result<Answer, AllocError>
+    requires states { All (λ s. IsStateOf net.now s) replay.now.states }
+    requires breaches { All (λ breach. breach.0 < length net.now.ipgoals) replay.now.breaches }
+    ensures text { IfOk result (λ answer. answer.text ≡ replay_text net.now replay.now.states replay.now.stop replay.now.breaches) }
+    ensures status { IfOk result (λ answer. answer.status ≡ replay_status replay.now.stop replay.now.breaches) }
+{
+    let mut text = Vec::new(alloc);
+    put_replay(alloc, &mut text, net, replay)?;
+    let status = if replay.stop.is_none() && replay.breaches.is_empty() {
+        Status::Holds
+    } else {
+        Status::Fails
+    };
+    Ok(Answer {
+        text: Items::from_vec(text),
+        status,
     })
 }

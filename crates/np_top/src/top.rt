@@ -6,7 +6,7 @@ ghost use Rattle.np_outside.specs.Files.{Files};
 ghost use Rattle.np_load.specs.Keeping.{KeepsShelf};
 ghost use Rattle.np_region.specs.Keeping.{KeepsRegions};
 ghost use Rattle.np_top.specs.Commands.{command_in, command_of};
-ghost use Rattle.np_top.specs.Outcome.{texts_of, AcceptsFiles, AreAccepted, HasFiles, IsAnswerTo, IsMaximalOutcome, IsMaximalFor, IsOutcome, IsDefined};
+ghost use Rattle.np_top.specs.Outcome.{texts_of, AcceptsFiles, AreAccepted, HasFiles, IsAnswerTo, IsMaximalOutcome, IsMaximalFor, IsTrajectoryFor, IsTrajectoryOutcome, IsOutcome, IsDefined};
 ghost use Rattle.np_top.specs.Report.{usage_text};
 ghost use Rattle.np_top.specs.Status.{IsReport, IsSettled, IsUnlessFault};
 ghost use Rattle.np_top.specs.Written.{Took, TookPrefix};
@@ -65,6 +65,8 @@ fn run_command<G: Regions, S: Shelf, K: Sink>(
 
     ensures maximal { result ≡ Status.Holds → (files : Files) → S.files shelf.old ≡ Some files →
         (text : List ℕ) × IsMaximalFor files (command_in command.entry) text × Took (K.taken sink.old) (K.taken sink.new) text }
+    ensures trajectory { IsReport result → (files : Files) → S.files shelf.old ≡ Some files →
+        (text : List ℕ) × IsTrajectoryFor files (command_in command.entry) text × Took (K.taken sink.old) (K.taken sink.new) text }
 
     ensures shelf { KeepsShelf S.files S.cap S.faults S.breaks shelf.old shelf.new }
     ensures faults_cap { K.cap sink.new ≡ K.cap sink.old }
@@ -133,6 +135,9 @@ pub fn run_in<R: Threads + Sync, G: Regions, S: Shelf, K: Sink>(
     // it, and letting one valid header cross a free slot that doesn't let it cross breaks one.
     ensures maximal { result ≡ Status.Holds → (files : Files) → S.files shelf.old ≡ Some files →
         (text : List ℕ) × IsMaximalOutcome (texts_of words.now) files text × Took (K.taken sink.old) (K.taken sink.new) text }
+    // Where the report on a replay is written, its states are a trajectory of the network's depth and of every larger one.
+    ensures trajectory { IsReport result → (files : Files) → S.files shelf.old ≡ Some files →
+        (text : List ℕ) × IsTrajectoryOutcome (texts_of words.now) files text × Took (K.taken sink.old) (K.taken sink.new) text }
 
     // What the shelf and the sink tell stays, and their counts do not fall.
     ensures files { S.files shelf.new ≡ S.files shelf.old }
@@ -159,6 +164,8 @@ pub fn run_in<R: Threads + Sync, G: Regions, S: Shelf, K: Sink>(
 /// `atoms NET` reads the same files, and writes the atoms of the network's filter cuts, with what each cut says of each.
 /// `synth NET` reads the same files, and writes a maximal posture that meets the goals, with what its free slots drop and
 /// why; or the first goal that is broken even with all free slots shut.
+/// `trace NET SCRIPT` reads the file NET and then the file SCRIPT, and writes what becomes of the script's packet: its states as
+/// far as its moves are legal, why one isn't, and which IPsec goals are broken.
 /// `show NET` reads the file NET, and writes the canonical text of the network that it declares.
 pub fn run<R: Threads + Sync, S: Shelf, K: Sink>(
     rt: &R,
@@ -209,6 +216,9 @@ pub fn run<R: Threads + Sync, S: Shelf, K: Sink>(
     // it, and letting one valid header cross a free slot that doesn't let it cross breaks one.
     ensures maximal { result ≡ Status.Holds → (files : Files) → S.files shelf.old ≡ Some files →
         (text : List ℕ) × IsMaximalOutcome (texts_of words.now) files text × Took (K.taken sink.old) (K.taken sink.new) text }
+    // Where the report on a replay is written, its states are a trajectory of the network's depth and of every larger one.
+    ensures trajectory { IsReport result → (files : Files) → S.files shelf.old ≡ Some files →
+        (text : List ℕ) × IsTrajectoryOutcome (texts_of words.now) files text × Took (K.taken sink.old) (K.taken sink.new) text }
 
     // What the shelf and the sink tell stays, and their counts do not fall.
     ensures files { S.files shelf.new ≡ S.files shelf.old }

@@ -28,7 +28,7 @@ module _ (net : Plan) (states : List State) (g : ℕ) (goal : IpGoal) (goal_is :
   within n breach = slice_get_within states n breach.here breach.here_is
 
   -- what breaks the goal is seen
-  seen : (n : ℕ) → BreaksAt net states g n → (is_meant goal (state_at states 0) ≡ true) × (shows net goal (state_at states n) ≡ true)
+  pub seen : (n : ℕ) → BreaksAt net states g n → (is_meant goal (state_at states 0) ≡ true) × (shows net goal (state_at states n) ≡ true)
   seen n breach =
       let first_is : state_at states 0 ≡ breach.first = get_or_from_slice_get states 0 breach.first _ breach.first_is in
       let here_is : state_at states n ≡ breach.here = get_or_from_slice_get states n breach.here _ breach.here_is in
@@ -51,7 +51,7 @@ module _ (net : Plan) (states : List State) (g : ℕ) (goal : IpGoal) (goal_is :
   }
 
   -- the first state of which it is seen is the first that breaks it
-  first_seen : is_meant goal (state_at states 0) ≡ true → (o : Option ℕ) → IsLeastBelow (λ n. shows net goal (state_at states n)) (length states) o → IsBreachOf net states g o
+  pub first_seen : is_meant goal (state_at states 0) ≡ true → (o : Option ℕ) → IsLeastBelow (λ n. shows net goal (state_at states n)) (length states) o → IsBreachOf net states g o
   first_seen meant None least = λ n breach. let yes' = (seen n breach).1 in let none = least n (within n breach) in cc
   first_seen meant (Some n) least = record {
     breaks = breaks n least.0 meant least.1;

@@ -7,3 +7,5 @@ pub mod BreachLaws
 pub mod ReplayLaws
 pub mod StepLaws
 pub mod TravelLaws
+pub mod ReplaysLaws
+pub mod BreachesLaws

@@ -13,7 +13,10 @@ mod states;
 mod stepping;
 mod travelling;
 
-pub use laws::{motions_lead_to_one_state, steps_are_unrefused};
+pub use laws::{
+    motions_lead_to_one_state, replays_have_breaches, scripts_are_replayed_once,
+    steps_are_unrefused,
+};
 pub use replaying::{Replayed, replay};
 pub use starting::start;
 pub use states::{Illegal, State};

@@ -1,0 +1,5 @@
+pub mod RespectLaws
+pub mod Searching
+pub mod AuthAnswers
+pub mod ReadableSets
+pub mod ConfAnswers

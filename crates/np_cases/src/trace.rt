@@ -138,6 +138,27 @@ const OTHER_WORDS: [(&str, &[&str], &str, u8); 5] = [
     ),
 ];
 
+/// Replays a script in a network.
+fn expect_replay<R: Threads + Sync + Abort>(
+    rt: &R,
+    alloc: Global,
+    net: &str,
+    script: &str,
+    text: &str,
+    number: u8,
+) -> Result<(), Fail> {
+    let files = [("net", net), ("script", script)];
+    expect_by_diagrams(
+        rt,
+        alloc,
+        script,
+        &["trace", "net", "script"],
+        &files,
+        text,
+        number,
+    )
+}
+
 /// Replays a script in the guarded network with this first line and this kind of the association.
 fn expect_trace<R: Threads + Sync + Abort>(
     rt: &R,
@@ -149,16 +170,7 @@ fn expect_trace<R: Threads + Sync + Abort>(
     number: u8,
 ) -> Result<(), Fail> {
     let net = guarded(alloc, first, kind)?;
-    let files = [("net", net.as_str()), ("script", script)];
-    expect_by_diagrams(
-        rt,
-        alloc,
-        script,
-        &["trace", "net", "script"],
-        &files,
-        text,
-        number,
-    )
+    expect_replay(rt, alloc, net.as_str(), script, text, number)
 }
 
 #[test]

@@ -1,11 +1,10 @@
 -- A script that fits a network has one report, and its states are a trajectory.
-use Rattle.std.proofs.Common.{◌≡◌, ◌≢◌, ℕ, ◌+◌, ◌<◌, ◌≤◌, Bool, true, false, List, [], ◌∷◌, length, All, Option, Some, None, Result, Ok, Err, IfOk, refl, sym, ◌∙◌, ap, subst}
+use Rattle.std.proofs.Common.{◌≡◌, ◌≢◌, ℕ, ◌<◌, Bool, true, false, List, [], ◌∷◌, length, All, Option, Some, None, Result, Ok, Err, IfOk, refl, sym, ◌∙◌, ap, subst}
 use Rattle.std.specs.Prelude.{if◌then◌else◌, nat_lt}
 use Rattle.std.specs.Option.{option_map}
 use Rattle.std.specs.FinMap.{get}
 use Rattle.std.proofs.lemmas.List.Elements.{All-weaker}
 use Rattle.np_outside.specs.Files.{Files}
-use Rattle.np_net.specs.Network.{IsNetwork}
 use Rattle.np_net.specs.Plan.{Plan}
 use Rattle.np_ipsec.specs.Steps.{State}
 use Rattle.np_script.specs.Fitting.{Fits}
@@ -13,12 +12,9 @@ use Rattle.np_script.specs.Reading.{script_of}
 use Rattle.np_script.specs.declared.script.Script.{Script}
 use Rattle.np_script.proofs.ShapeLaws.{script_fits}
 use Rattle.np_traj.specs.Breaching.{AreBreaches, IsFirstBreach}
-use Rattle.np_traj.specs.Laws.{Breaches, Replay}
-use Rattle.np_traj.specs.Replaying.{AreReplayed, AreTrajectory}
-use Rattle.np_traj.specs.States.{IsStateOf}
 use Rattle.np_traj.specs.declared.states.Illegal.{Illegal}
 use Rattle.np_traj.proofs.BreachesLaws.{breaches_of, one_list}
-use Rattle.np_traj.proofs.ReplaysLaws.{a_replay, one_replay, replay_goes_deeper, replay_of}
+use Rattle.np_traj.proofs.ReplaysLaws.{a_replay, one_replay, replay_goes_deeper}
 use Rattle.np_report.specs.Refusals.{refusal_text}
 use Rattle.np_ipsec_report.specs.Replays.{replay_text}
 use Rattle.np_report.specs.declared.refusals.Refusal.TheVariants as refusal

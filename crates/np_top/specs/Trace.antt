@@ -1,5 +1,5 @@
 -- What `trace` writes of a network and a script.
-use Rattle.std.specs.Prelude.{◌≡◌, ℕ, ◌≤◌, List, [], ◌∷◌, length, Contains, Option, Some, None}
+use Rattle.std.specs.Prelude.{◌≡◌, ℕ, ◌≤◌, List, [], ◌∷◌, length, Option, Some, None}
 use Rattle.np_ipsec.specs.Steps.{State}
 use Rattle.np_net.specs.Plan.{Plan}
 use Rattle.np_script.specs.declared.script.Script.{Script}

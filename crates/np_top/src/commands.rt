@@ -6,7 +6,7 @@ ghost use Rattle.np_top.specs.Commands.{command_in, command_of};
 ghost use Rattle.np_top.specs.Commands as commands;
 ghost use Rattle.np_top.specs.Outcome.{texts_of};
 
-/// A command, with the name of the network's file.
+/// A command, with the names of its files.
 #[derive(Clone, Copy)]
 pub enum Command<'a> {
     /// `check NET`

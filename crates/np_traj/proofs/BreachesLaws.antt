@@ -1,5 +1,5 @@
 -- The states of a replay have breaches, and no others.
-use Rattle.std.proofs.Common.{◌≡◌, ◌⊎◌, ℕ, zero, suc, ◌+◌, ◌<◌, ◌≤◌, Bool, true, false, List, [], ◌∷◌, ◌++◌, length, get_or, All, AllPairs, Contains, Option, Some, None, slice_get, inl, inr, refl, sym, ◌∙◌, subst, arith}
+use Rattle.std.proofs.Common.{◌≡◌, ◌⊎◌, ℕ, zero, suc, ◌+◌, ◌<◌, Bool, true, false, List, [], ◌∷◌, ◌++◌, length, AllPairs, Contains, Option, Some, None, slice_get, inl, inr, refl, sym, ◌∙◌, subst, arith}
 use Rattle.std.specs.Option.{option_map, option_to_list}
 use Rattle.std.proofs.lemmas.Bool.{cases_lt}
 use Rattle.std.proofs.lemmas.List.Elements.{All-contains, All-nil, Contains-append_cases, Contains-append_left, Contains-append_right, Contains-push, Contains-push_cases}
@@ -7,7 +7,7 @@ use Rattle.np_net.specs.Plan.{Plan}
 use Rattle.np_net.specs.declared.associations.IpGoal.{IpGoal}
 use Rattle.np_ipsec.specs.Steps.{State}
 use Rattle.np_script.specs.declared.script.Script.{Script}
-use Rattle.np_traj.specs.Breaching.{AreBreaches, BreaksAt, IsFirstBreach}
+use Rattle.np_traj.specs.Breaching.{AreBreaches, IsFirstBreach}
 use Rattle.np_traj.specs.Laws.{Breaches}
 use Rattle.np_traj.specs.Replaying.{AreReplayed}
 use Rattle.np_traj.specs.Sighting.{HavePlainOfFirst, IsBreachOf, IsLeastBelow, is_meant, shows, state_at}

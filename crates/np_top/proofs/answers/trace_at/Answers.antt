@@ -11,7 +11,7 @@ replay_report-requires g c =
     let replay = c.in_ok-replay.replay in (
       omega arith,
       (
-        replay_of net g.row.N c.args.script.now c.requires.fits network replay.states replay.stop c.in_ok-replay.ensures.replayed,
+        replay_of net _ c.args.script.now c.requires.fits network replay.states replay.stop c.in_ok-replay.ensures.replayed,
         goals_within net replay.states replay.breaches c.in_ok-replay.ensures.breaches,
       ),
     )

@@ -12,6 +12,8 @@ mod check;
 #[cfg(test)]
 mod cuts;
 #[cfg(test)]
+mod ipsec;
+#[cfg(test)]
 mod networks;
 #[cfg(test)]
 mod refusals;

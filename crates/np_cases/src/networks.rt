@@ -154,11 +154,13 @@ line vty 0 4
 end
 ";
 
-/// Two trusted areas with a guard before each, and a network between them whose device isn't trusted.
-const GUARDED: &str = "area x 10.1.0.0/16 trusted
+/// A trusted area, the network around it, and another area, whose line may go on.
+const AREAS: &str = "area x 10.1.0.0/16 trusted
 area net 0.0.0.0/0
-area y 10.2.0.0/16 trusted
-device gx trusted
+area y 10.2.0.0/16";
+
+/// A guard before each of the two areas, and a device of the network between them that isn't trusted.
+const GUARDED: &str = "device gx trusted
 device gy trusted
 device w
 interface gx e0 x
@@ -179,9 +181,19 @@ auth x y src x
 conf x dst y
 ";
 
-/// The two guarded areas with these lines before all others, and an association of this kind between the guards.
+/// The two guarded areas, both trusted, with these lines before all others, and an association of this kind between the guards.
 pub(crate) fn guarded(alloc: Global, first: &str, kind: &str) -> Result<String, AllocError> {
-    format!(in alloc; "{first}{GUARDED}sa t {kind} gx gy\n{GUARDS}")
+    format!(in alloc; "{first}{AREAS} trusted\n{GUARDED}sa t {kind} gx gy\n{GUARDS}")
+}
+
+/// The same with this line after all others.
+pub(crate) fn guarded_and(alloc: Global, kind: &str, last: &str) -> Result<String, AllocError> {
+    format!(in alloc; "{AREAS} trusted\n{GUARDED}sa t {kind} gx gy\n{GUARDS}{last}")
+}
+
+/// The two guarded areas where the second one isn't trusted.
+pub(crate) fn half_trusted(alloc: Global) -> Result<String, AllocError> {
+    format!(in alloc; "{AREAS}\n{GUARDED}sa t esp gx gy\n{GUARDS}")
 }
 
 /// The two areas with a configuration for the device, and this goal from the first area to the second.

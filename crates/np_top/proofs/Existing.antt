@@ -22,10 +22,12 @@ use Rattle.np_load.specs.Saying.{net_says}
 use Rattle.np_top.specs.declared.status.Status.{Status}
 use Rattle.np_top.specs.declared.status.Status.TheVariants.{Usage, Refused}
 use Rattle.np_top.specs.declared.status.Status.TheVariants as status
-use Rattle.np_top.specs.Commands.{Command, check, atoms, synth, trace, show, command_of}
+use Rattle.np_top.specs.Commands.{Command, check, atoms, synth, ipsec, trace, show, command_of}
 use Rattle.np_top.specs.Outcome.{IsAnswer, IsAnswerTo, IsCheckReportOn, IsAtomsReportOn, IsSynthesisReportOn, IsTraceReportOn, HasFiles, IsOutcome, IsDefined}
 use Rattle.np_top.specs.Report.{usage_text, IsCheckReport, IsAtomsReport, cuts_of, verdicts_status}
+use Rattle.np_top.specs.Ipsec.{IsIpsecReport}
 use Rattle.np_top.specs.Show.{IsCanonical}
+use Rattle.np_top.proofs.IpsecLaws.{an_ipsec_report}
 use Rattle.np_top.proofs.SynthesisLaws.{a_synthesis_report}
 use Rattle.np_top.proofs.TraceLaws.{a_trace_report, play_fits}
 
@@ -72,6 +74,7 @@ an_answer_to : (files : Files) (command : Command) → HasFiles files command �
 an_answer_to files (check file) there = an_answer IsCheckReportOn (inputs_of files file) (λ inputs said. a_check_report inputs.net inputs.configs) there
 an_answer_to files (atoms file) there = an_answer IsAtomsReportOn (inputs_of files file) (λ inputs said. an_atoms_report inputs.net inputs.configs) there
 an_answer_to files (synth file) there = an_answer IsSynthesisReportOn (inputs_of files file) (λ inputs said. a_synthesis_report inputs.net inputs.configs) there
+an_answer_to files (ipsec file) there = an_answer IsIpsecReport (net_says files file) (λ net said. an_ipsec_report net) there
 an_answer_to files (trace file script) there =
     an_answer IsTraceReportOn (play_of files file script) (λ play said. a_trace_report play.net play.script (play_fits files file script play said)) there
 an_answer_to files (show file) there = an_answer IsCanonical (net_says files file) (λ net said. (net_text net, status.Holds, (refl, refl))) there

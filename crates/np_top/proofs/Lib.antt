@@ -1,7 +1,10 @@
 mod Existing
+mod IpsecAnswers
+mod IpsecLaws
 mod OneReport
 mod Outcomes
 mod Reports
+mod SafeLaws
 mod SynthesisLaws
 mod Synthesising
 mod TraceLaws

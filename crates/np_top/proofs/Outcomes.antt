@@ -6,17 +6,19 @@ use Rattle.np_top.specs.declared.status.Status.{Status}
 use Rattle.np_top.specs.declared.status.Status.TheVariants.{Holds, Fails, Usage, Refused, ReadFault, WriteFault, Memory}
 use Rattle.np_net.specs.Plan.{Plan}
 use Rattle.np_script.specs.Fitting.{Fits}
-use Rattle.np_top.specs.Commands.{Command, check, atoms, synth, trace, show, command_of}
+use Rattle.np_top.specs.Commands.{Command, check, atoms, synth, ipsec, trace, show, command_of}
 use Rattle.np_top.specs.Report.{usage_text, verdicts_status}
 use Rattle.np_goals.specs.declared.verdicts.Verdict.{Verdict}
 use Rattle.np_report.specs.Verdicts.{all_hold}
 use Rattle.np_load.specs.Inputs.{Inputs, Play, inputs_of, play_of}
 use Rattle.np_load.specs.Saying.{net_says}
-use Rattle.np_top.specs.Outcome.{IsAnswer, IsAnswerTo, IsCheckReportOn, IsAtomsReportOn, IsSynthesisReportOn, IsTraceReportOn, HasFiles, IsAccepted, AcceptsFiles, AreAccepted, IsOutcome, IsDefined, IsMaximalOn, IsMaximalFor, IsMaximalOutcome, IsTrajectoryOn, IsTrajectoryFor, IsTrajectoryOutcome, IsOneOutcome}
+use Rattle.np_top.specs.Outcome.{IsAnswer, IsAnswerTo, IsCheckReportOn, IsAtomsReportOn, IsSynthesisReportOn, IsTraceReportOn, HasFiles, IsAccepted, AcceptsFiles, AreAccepted, IsOutcome, IsDefined, IsMaximalOn, IsMaximalFor, IsMaximalOutcome, IsTrajectoryOn, IsTrajectoryFor, IsTrajectoryOutcome, IsSafeOn, IsSafeFor, IsSafeOutcome, IsOneOutcome}
+use Rattle.np_top.specs.Ipsec.{IsIpsecReport}
 use Rattle.np_top.specs.Show.{IsCanonical}
 use Rattle.np_top.specs.Status.{IsReport, IsSettled, IsUnlessFault}
 use Rattle.np_top.specs.Written.{Took, TookPrefix}
 use Rattle.np_top.proofs.Existing.{an_outcome}
+use Rattle.np_top.proofs.IpsecLaws.{one_ipsec_report, ipsec_reported, ipsec_safe}
 use Rattle.np_top.proofs.OneReport.{Same, one_check_report, one_atoms_report}
 use Rattle.np_top.proofs.SynthesisLaws.{one_synthesis_report, synthesis_reported, holds_is_maximal}
 use Rattle.np_top.proofs.TraceLaws.{one_trace_report, play_fits, trace_is_trajectory, trace_reported}
@@ -37,6 +39,7 @@ one_answer_to files (atoms file) s t x y a b =
     one_answer IsAtomsReportOn (λ inputs s t x y a b. one_atoms_report inputs.net inputs.configs s t x y a b) (inputs_of files file) s t x y a b
 one_answer_to files (synth file) s t x y a b =
     one_answer IsSynthesisReportOn (λ inputs s t x y a b. one_synthesis_report inputs.net inputs.configs s t x y a b) (inputs_of files file) s t x y a b
+one_answer_to files (ipsec file) s t x y a b = one_answer IsIpsecReport one_ipsec_report (net_says files file) s t x y a b
 one_answer_to files (trace file script) s t x y a b =
     one_answer IsTraceReportOn (λ play s t x y a b. one_trace_report play.net play.script s t x y a b) (play_of files file script) s t x y a b
 one_answer_to files (show file) s t x y a b = one_answer IsCanonical one_canonical (net_says files file) s t x y a b
@@ -58,6 +61,7 @@ has_files : (files : Files) (command : Command) (text : List ℕ) (status : Stat
 has_files files (check file) text status answer = defined_by IsCheckReportOn (inputs_of files file) text status answer
 has_files files (atoms file) text status answer = defined_by IsAtomsReportOn (inputs_of files file) text status answer
 has_files files (synth file) text status answer = defined_by IsSynthesisReportOn (inputs_of files file) text status answer
+has_files files (ipsec file) text status answer = defined_by IsIpsecReport (net_says files file) text status answer
 has_files files (trace file script) text status answer = defined_by IsTraceReportOn (play_of files file script) text status answer
 has_files files (show file) text status answer = defined_by IsCanonical (net_says files file) text status answer
 
@@ -142,6 +146,7 @@ reported files (atoms file) text status accepted is =
     answer_reported IsAtomsReportOn (λ inputs text status is. subst IsReport (sym is.status_is) tt) (inputs_of files file) text status accepted is
 reported files (synth file) text status accepted is =
     answer_reported IsSynthesisReportOn (λ inputs text status is. synthesis_reported inputs.net inputs.configs text status is) (inputs_of files file) text status accepted is
+reported files (ipsec file) text status accepted is = answer_reported IsIpsecReport ipsec_reported (net_says files file) text status accepted is
 reported files (trace file script) text status accepted is =
     answer_reported IsTraceReportOn (λ play text status is. trace_reported play.net play.script text status is) (play_of files file script) text status accepted is
 reported files (show file) text status accepted is =
@@ -156,6 +161,7 @@ pub accepted_files : (files : Files) (command : Command) → AcceptsFiles files 
 accepted_files files (check file) accepted = accepted_there (inputs_of files file) accepted
 accepted_files files (atoms file) accepted = accepted_there (inputs_of files file) accepted
 accepted_files files (synth file) accepted = accepted_there (inputs_of files file) accepted
+accepted_files files (ipsec file) accepted = accepted_there (net_says files file) accepted
 accepted_files files (trace file script) accepted = accepted_there (play_of files file script) accepted
 accepted_files files (show file) accepted = accepted_there (net_says files file) accepted
 
@@ -196,6 +202,7 @@ pub maximal_for : (files : Files) (command : Command) (text : List ℕ) → IsAn
 maximal_for files (check file) text answer = tt
 maximal_for files (atoms file) text answer = tt
 maximal_for files (synth file) text answer = maximal_on (inputs_of files file) text answer
+maximal_for files (ipsec file) text answer = tt
 maximal_for files (trace file script) text answer = tt
 maximal_for files (show file) text answer = tt
 
@@ -227,6 +234,7 @@ pub trajectory_for : (files : Files) (command : Command) (text : List ℕ) (stat
 trajectory_for files (check file) text status report answer = tt
 trajectory_for files (atoms file) text status report answer = tt
 trajectory_for files (synth file) text status report answer = tt
+trajectory_for files (ipsec file) text status report answer = tt
 trajectory_for files (trace file script) text status report answer = trajectory_on (play_of files file script) text status (play_fits files file script) report answer
 trajectory_for files (show file) text status report answer = tt
 
@@ -239,3 +247,30 @@ written_trajectory files command result old new report w = (w.0, trajectory_for 
 pub trajectory_command : (words : List (List ℕ)) (files : Files) (command : Command) (old new : Option (List ℕ)) → Some command ≡ command_of words →
     (text : List ℕ) × IsTrajectoryFor files command text × Took old new text → (text : List ℕ) × IsTrajectoryOutcome words files text × Took old new text
 trajectory_command words files command old new fits w = (w.0, rw (← fits) w.1, w.2)
+
+-- ---- answers on IPsec goals whose report is written
+
+-- what is to be written of them with the status of a report is the text of safe answers
+safe_on : (says : Option (Result Plan (List ℕ))) (text : List ℕ) (status : Status) → IsReport status → IsAnswer IsIpsecReport says text status → IsSafeOn says text
+safe_on None text status report answer = absurd answer
+safe_on (Some (Err refusal)) text status report answer = refused_only status answer.1 report
+safe_on (Some (Ok net)) text status report answer = ipsec_safe net text status answer
+
+-- so it is for any command
+pub safe_for : (files : Files) (command : Command) (text : List ℕ) (status : Status) → IsReport status → IsAnswerTo files command text status → IsSafeFor files command text
+safe_for files (check file) text status report answer = tt
+safe_for files (atoms file) text status report answer = tt
+safe_for files (synth file) text status report answer = tt
+safe_for files (ipsec file) text status report answer = safe_on (net_says files file) text status report answer
+safe_for files (trace file script) text status report answer = tt
+safe_for files (show file) text status report answer = tt
+
+-- what is written whole with such a status is such a text
+pub written_safe : (files : Files) (command : Command) (result : Status) (old new : Option (List ℕ)) → IsReport result →
+    (text : List ℕ) × IsAnswerTo files command text result × Took old new text → (text : List ℕ) × IsSafeFor files command text × Took old new text
+written_safe files command result old new report w = (w.0, safe_for files command w.0 result report w.1, w.2)
+
+-- what is safe for a command is so for its words
+pub safe_command : (words : List (List ℕ)) (files : Files) (command : Command) (old new : Option (List ℕ)) → Some command ≡ command_of words →
+    (text : List ℕ) × IsSafeFor files command text × Took old new text → (text : List ℕ) × IsSafeOutcome words files text × Took old new text
+safe_command words files command old new fits w = (w.0, rw (← fits) w.1, w.2)

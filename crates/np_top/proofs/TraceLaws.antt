@@ -1,17 +1,21 @@
 -- A script that fits a network has one report, and its states are a trajectory.
-use Rattle.std.proofs.Common.{◌≡◌, ◌≢◌, ℕ, ◌<◌, Bool, true, false, List, [], ◌∷◌, length, All, Option, Some, None, Result, Ok, Err, IfOk, refl, sym, ◌∙◌, ap, subst}
+use Rattle.std.proofs.Common.{◌≡◌, ◌≢◌, ℕ, ◌<◌, arith, Bool, true, false, List, [], ◌∷◌, length, slice_get, All, Contains, Option, Some, None, Result, Ok, Err, IfOk, refl, sym, ◌∙◌, ap, subst}
 use Rattle.std.specs.Prelude.{if◌then◌else◌, nat_lt}
 use Rattle.std.specs.Option.{option_map}
 use Rattle.std.specs.FinMap.{get}
-use Rattle.std.proofs.lemmas.List.Elements.{All-weaker}
+use Rattle.std.proofs.lemmas.List.Elements.{All-contains, All-weaker}
+use Rattle.std.proofs.lemmas.Option.{get_or_from_slice_get, slice_get_within}
 use Rattle.np_outside.specs.Files.{Files}
 use Rattle.np_net.specs.Plan.{Plan}
+use Rattle.np_net.specs.declared.associations.IpGoal.{IpGoal}
 use Rattle.np_ipsec.specs.Steps.{State}
+use Rattle.np_ipsec.specs.Trajectories.{BreaksGoal, IsSafe}
 use Rattle.np_script.specs.Fitting.{Fits}
 use Rattle.np_script.specs.Reading.{script_of}
 use Rattle.np_script.specs.declared.script.Script.{Script}
 use Rattle.np_script.proofs.ShapeLaws.{script_fits}
-use Rattle.np_traj.specs.Breaching.{AreBreaches, IsFirstBreach}
+use Rattle.np_traj.specs.Breaching.{AreBreaches, BreaksAt, IsFirstBreach}
+use Rattle.np_traj.specs.Replaying.{AreReplayed, AreTrajectory}
 use Rattle.np_traj.specs.declared.states.Illegal.{Illegal}
 use Rattle.np_traj.proofs.BreachesLaws.{breaches_of, one_list}
 use Rattle.np_traj.proofs.ReplaysLaws.{a_replay, one_replay, replay_goes_deeper}
@@ -25,8 +29,10 @@ use Rattle.np_top.specs.declared.status.Status.{Status}
 use Rattle.np_top.specs.declared.status.Status.TheVariants.{Holds, Fails, Usage, Refused, ReadFault, WriteFault, Memory}
 use Rattle.np_top.specs.Status.{IsReport, IsSettled}
 use Rattle.np_top.specs.declared.report.Answer.{Answer}
+use Rattle.np_top.specs.Ipsec.{RulesHold}
 use Rattle.np_top.specs.Trace.{IsTraceReport, IsTrajectoryText, replay_status}
 use Rattle.np_top.proofs.OneReport.{Same}
+use Rattle.np_top.proofs.SafeLaws.{rules_safe}
 
 -- ---- a script that a file has fits the network
 
@@ -104,6 +110,26 @@ module _ (net : Plan) (script : Script) where
 
   -- ---- its states
 
+  -- of a trajectory no state breaks a goal that is safe
+  none_breaks : (states : List State) (goal : IpGoal) (n : ℕ) (first here : State) → AreTrajectory net net.depth states → IsSafe net net.depth goal →
+      slice_get states 0 ≡ Some first → slice_get states n ≡ Some here → BreaksGoal net goal first here → ⊥
+  none_breaks [] goal n first here are safe first_is here_is breaks = absurd (cc)
+  none_breaks (s ∷ states) goal n first here are safe first_is here_is breaks =
+      let same : first ≡ s = cc in
+      safe s states are here (n, slice_get_within (s ∷ states) n here here_is, get_or_from_slice_get (s ∷ states) n here here here_is)
+      (subst (λ x. BreaksGoal net goal x here) same breaks)
+
+  -- so there is no breach of a goal whose local rules hold
+  none_broken : (states : List State) (stop : Option (ℕ × Illegal)) (breaches : List (ℕ × ℕ)) → Fits net script → AreReplayed net net.depth script states stop →
+      AreBreaches net states (length net.ipgoals) breaches → (g n : ℕ) (goal : IpGoal) → Contains breaches (g, n) → slice_get net.ipgoals g ≡ Some goal → RulesHold net goal → ⊥
+  none_broken states stop breaches fits replayed are g n goal listed goal_is rules =
+      let breach : BreaksAt net states g n =
+      (All-contains (λ breach. (breach.0 < length net.ipgoals) × IsFirstBreach net states breach.0 breach.1) breaches (g, n) are.each listed).1.breaks in
+      let goal_too : slice_get net.ipgoals g ≡ Some breach.the_goal = breach.goal_is in
+      let same : breach.the_goal ≡ goal = cc in
+      none_breaks states goal n breach.first breach.here (replay_goes_deeper net net.depth script fits states stop replayed net.depth (omega arith))
+      (rules_safe net goal rules net.depth) breach.first_is breach.here_is (subst (λ x. BreaksGoal net x breach.first breach.here) same breach.breaks)
+
   -- they are a trajectory
   pub trace_is_trajectory : (text : List ℕ) (status : Status) → Fits net script → IsTraceReport net script text status → IsTrajectoryText net text
   trace_is_trajectory text status fits is = record {
@@ -111,6 +137,7 @@ module _ (net : Plan) (script : Script) where
     stop = is.stop;
     breaches = is.breaches;
     trajectory = replay_goes_deeper net net.depth script fits is.states is.stop is.replayed;
+    unbroken = none_broken is.states is.stop is.breaches fits is.replayed is.breached;
     text_is = is.text_is;
   }
 

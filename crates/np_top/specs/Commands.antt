@@ -9,6 +9,7 @@ pub data Command : Type 0 where
   check : List ℕ → Command
   atoms : List ℕ → Command
   synth : List ℕ → Command
+  ipsec : List ℕ → Command
   trace : List ℕ → List ℕ → Command
   show : List ℕ → Command
 
@@ -17,6 +18,7 @@ abbrev pub command_in : declared.Command → Command
 command_in (variants.Check file) = check file.now
 command_in (variants.Atoms file) = atoms file.now
 command_in (variants.Synth file) = synth file.now
+command_in (variants.Ipsec file) = ipsec file.now
 command_in (variants.Trace file script) = trace file.now script.now
 command_in (variants.Show file) = show file.now
 
@@ -26,7 +28,8 @@ command_on word file =
     if bytes_eq word (codes "check") then Some (check file) else
     (if bytes_eq word (codes "atoms") then Some (atoms file) else
     (if bytes_eq word (codes "synth") then Some (synth file) else
-    (if bytes_eq word (codes "show") then Some (show file) else None)))
+    (if bytes_eq word (codes "ipsec") then Some (ipsec file) else
+    (if bytes_eq word (codes "show") then Some (show file) else None))))
 
 -- the command of these three words
 abbrev pub command_on_both : List ℕ → List ℕ → List ℕ → Option Command

@@ -2,6 +2,7 @@ pub mod Show
 pub mod Report
 pub mod Synthesis
 pub mod Trace
+pub mod Ipsec
 pub mod Commands
 pub mod Outcome
 pub mod Status

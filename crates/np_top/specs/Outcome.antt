@@ -5,12 +5,14 @@ use Rattle.std.specs.declared.alloc.Global.{Global}
 use Rattle.np_outside.specs.Files.{Files}
 use Rattle.np_load.specs.Inputs.{Inputs, Play, inputs_of, play_of}
 use Rattle.np_load.specs.Saying.{net_says}
+use Rattle.np_net.specs.Plan.{Plan}
 use Rattle.np_top.specs.declared.status.Status.{Status}
 use Rattle.np_top.specs.declared.status.Status.TheVariants.{Usage, Refused}
-use Rattle.np_top.specs.Commands.{Command, check, atoms, synth, trace, show, command_of}
+use Rattle.np_top.specs.Commands.{Command, check, atoms, synth, ipsec, trace, show, command_of}
 use Rattle.np_top.specs.Report.{usage_text, IsCheckReport, IsAtomsReport}
 use Rattle.np_top.specs.Show.{IsCanonical}
 use Rattle.np_top.specs.Synthesis.{IsSynthesisReport, IsMaximalText}
+use Rattle.np_top.specs.Ipsec.{IsIpsecReport, IsSafeText}
 use Rattle.np_top.specs.Trace.{IsTraceReport, IsTrajectoryText}
 
 -- the report on the goals, of these inputs
@@ -40,6 +42,7 @@ abbrev pub IsAnswerTo : Files → Command → List ℕ → Status → Type 0
 IsAnswerTo files (check file) text status = IsAnswer IsCheckReportOn (inputs_of files file) text status
 IsAnswerTo files (atoms file) text status = IsAnswer IsAtomsReportOn (inputs_of files file) text status
 IsAnswerTo files (synth file) text status = IsAnswer IsSynthesisReportOn (inputs_of files file) text status
+IsAnswerTo files (ipsec file) text status = IsAnswer IsIpsecReport (net_says files file) text status
 IsAnswerTo files (trace file script) text status = IsAnswer IsTraceReportOn (play_of files file script) text status
 IsAnswerTo files (show file) text status = IsAnswer IsCanonical (net_says files file) text status
 
@@ -48,6 +51,7 @@ abbrev pub HasFiles : Files → Command → Type 0
 HasFiles files (check file) = IsSome (inputs_of files file)
 HasFiles files (atoms file) = IsSome (inputs_of files file)
 HasFiles files (synth file) = IsSome (inputs_of files file)
+HasFiles files (ipsec file) = IsSome (net_says files file)
 HasFiles files (trace file script) = IsSome (play_of files file script)
 HasFiles files (show file) = IsSome (net_says files file)
 
@@ -71,6 +75,7 @@ abbrev pub AcceptsFiles : Files → Command → Type 0
 AcceptsFiles files (check file) = IsAccepted (inputs_of files file)
 AcceptsFiles files (atoms file) = IsAccepted (inputs_of files file)
 AcceptsFiles files (synth file) = IsAccepted (inputs_of files file)
+AcceptsFiles files (ipsec file) = IsAccepted (net_says files file)
 AcceptsFiles files (trace file script) = IsAccepted (play_of files file script)
 AcceptsFiles files (show file) = IsAccepted (net_says files file)
 
@@ -89,6 +94,7 @@ abbrev pub IsMaximalFor : Files → Command → List ℕ → Type 0
 IsMaximalFor files (check file) text = Unit {0}
 IsMaximalFor files (atoms file) text = Unit {0}
 IsMaximalFor files (synth file) text = IsMaximalOn (inputs_of files file) text
+IsMaximalFor files (ipsec file) text = Unit {0}
 IsMaximalFor files (trace file script) text = Unit {0}
 IsMaximalFor files (show file) text = Unit {0}
 
@@ -107,12 +113,32 @@ abbrev pub IsTrajectoryFor : Files → Command → List ℕ → Type 0
 IsTrajectoryFor files (check file) text = Unit {0}
 IsTrajectoryFor files (atoms file) text = Unit {0}
 IsTrajectoryFor files (synth file) text = Unit {0}
+IsTrajectoryFor files (ipsec file) text = Unit {0}
 IsTrajectoryFor files (trace file script) text = IsTrajectoryOn (play_of files file script) text
 IsTrajectoryFor files (show file) text = Unit {0}
 
 -- Where the words are those of a replay, the text is that of a trajectory.
 abbrev pub IsTrajectoryOutcome : List (List ℕ) → Files → List ℕ → Type 0
 IsTrajectoryOutcome words files text = MatchOption (command_of words) (Unit {0}) (λ command. IsTrajectoryFor files command text)
+
+-- what a file says is a network, and the text is that of answers that are safe
+abbrev pub IsSafeOn : Option (Result Plan (List ℕ)) → List ℕ → Type 0
+IsSafeOn None text = ⊥
+IsSafeOn (Some (Err refusal)) text = ⊥
+IsSafeOn (Some (Ok net)) text = IsSafeText net text
+
+-- for a report on IPsec goals: each yes is safe
+abbrev pub IsSafeFor : Files → Command → List ℕ → Type 0
+IsSafeFor files (check file) text = Unit {0}
+IsSafeFor files (atoms file) text = Unit {0}
+IsSafeFor files (synth file) text = Unit {0}
+IsSafeFor files (ipsec file) text = IsSafeOn (net_says files file) text
+IsSafeFor files (trace file script) text = Unit {0}
+IsSafeFor files (show file) text = Unit {0}
+
+-- Where the words ask about IPsec goals, each yes is safe.
+abbrev pub IsSafeOutcome : List (List ℕ) → Files → List ℕ → Type 0
+IsSafeOutcome words files text = MatchOption (command_of words) (Unit {0}) (λ command. IsSafeFor files command text)
 
 -- There is one outcome at most, and there is one exactly where the files that it needs are there.
 pub record IsOneOutcome : Type 0 where

@@ -1,13 +1,16 @@
 //! The answers to the commands.
 
-ghost use Rattle.std.specs.Prelude.{◌≡◌, ◌≢◌, ◌<◌, ℕ, Some, IfOk, IsErrOf, length, slice_index_or};
+ghost use Rattle.std.specs.Prelude.{◌≡◌, ◌≢◌, ◌<◌, ℕ, Some, IfOk, IsErrOf, length, slice_get, slice_index_or};
 ghost use Rattle.np_outside.specs.Counts.{Rose};
 ghost use Rattle.np_outside.specs.Files.{Files};
+ghost use Rattle.np_space.specs.Classes.{AreLeasts};
 ghost use Rattle.np_region.specs.Keeping.{KeepsRegions};
+ghost use Rattle.np_net.specs.declared.associations.IpGoal.{IpGoal as Aim};
 ghost use Rattle.np_net.specs.declared.filtering.Goal.{Goal};
 ghost use Rattle.np_atomizer.specs.Atoms.{AreAtoms, atoms_in, sets_in};
 ghost use Rattle.np_cut.specs.Applying.{slot_lets};
 ghost use Rattle.np_cut.specs.FilterCuts.{filter_tests};
+ghost use Rattle.np_ipgoals.specs.Cuts.{ipsec_tests};
 ghost use Rattle.np_goals.specs.Cases.{goal_at};
 ghost use Rattle.np_goals.specs.Verdicts.{IsVerdict};
 ghost use Rattle.np_goals.specs.declared.verdicts.Verdict.TheVariants as verdict;
@@ -19,6 +22,7 @@ ghost use Rattle.np_load.specs.Keeping.{KeepsShelf};
 ghost use Rattle.np_load.specs.Loading.{inputs_in, play_in};
 ghost use Rattle.np_top.specs.Replying.{Replies};
 ghost use Rattle.np_top.specs.Outcome.{IsAnswerTo, IsAtomsReportOn, IsCheckReportOn, IsSynthesisReportOn, IsTraceReportOn, HasFiles};
+ghost use Rattle.np_top.specs.Ipsec.{AreRightAnswers, IsIpsecReport, IsRightAnswer};
 ghost use Rattle.np_top.specs.Synthesis.{IsSynthesisReport};
 ghost use Rattle.np_top.specs.Trace.{IsTraceReport};
 ghost use Rattle.np_script.specs.Fitting.{Fits};
@@ -27,19 +31,24 @@ ghost use Rattle.np_top.specs.Status.{IsSettled};
 
 use crate::commands::Command;
 use crate::report::{
-    Answer, atoms_report, canonical, chosen_report, replay_report, unattainable_report,
-    verdicts_report,
+    Answer, answers_report, atoms_report, canonical, chosen_report, replay_report,
+    unattainable_report, verdicts_report,
 };
 use crate::status::Status;
 use np_acl_read::Config;
 use np_atomizer::{Atoms, atomize};
+use np_auth::check_auth;
+use np_conf::check_conf;
 use np_cut::{Applied, apply, filter_cuts};
 use np_goals::{Verdict, case_of, judge};
+use np_ipgoals::ipsec_cuts;
+use np_ipsec_report::IpAnswer;
 use np_load::{Halt, Inputs, Play, load_inputs, load_net, load_play};
-use np_net::Network;
+use np_net::{IpGoal, Network};
 use np_outside::Shelf;
 use np_region::Regions;
 use np_script::Script;
+use np_space::Header;
 use np_synth::{SynthError, synthesise};
 use np_traj::replay;
 use sqlite_items::Items;
@@ -190,6 +199,60 @@ fn trace(alloc: Global, play: Play) -> Result<Answer, AllocError>
     trace_script(alloc, &net, &script)
 }
 
+/// The answer on an IPsec goal.
+fn ip_answer(net: &Network, leasts: &[Header], k: usize) -> IpAnswer
+    requires goal { k < length net.now.ipgoals }
+    requires leasts { AreLeasts (ipsec_tests net.now) leasts.now }
+    ensures right { (goal : Aim) → slice_get net.now.ipgoals k ≡ Some goal → IsRightAnswer net.now goal result }
+{
+    match &net.ipgoals.as_slice()[k] {
+        IpGoal::Auth { .. } => IpAnswer::Auth(check_auth(net, leasts, k)),
+        IpGoal::Conf { .. } => IpAnswer::Conf(check_conf(net, leasts, k)),
+    }
+}
+
+/// The answers on all of them, in their order.
+fn ip_answers(
+    alloc: Global,
+    net: &Network,
+    leasts: &[Header],
+) -> Result<Items<IpAnswer>, AllocError>
+    requires { AreLeasts (ipsec_tests net.now) leasts.now }
+    ensures { IfOk result (λ answers. AreRightAnswers net.now net.now.ipgoals answers) }
+{
+    let mut answers = Items::new(alloc);
+    for k in 0..net.ipgoals.len() {
+        answers.push(ip_answer(net, leasts, k))?;
+    }
+    Ok(answers)
+}
+
+/// The least headers of the classes that no rule, no IPsec goal and no area tells apart.
+fn ip_leasts<G: Regions>(
+    alloc: Global,
+    store: &mut G,
+    net: &Network,
+) -> Result<Vec<Header>, AllocError>
+    ensures kept { KeepsRegions G.fits G.has_header store.old store.new }
+    ensures leasts { IfOk result (λ leasts. AreLeasts (ipsec_tests net.now) leasts.items) }
+{
+    let cuts = ipsec_cuts(alloc, store, net)?;
+    let atoms = atomize(alloc, store, cuts.as_slice())?;
+    atoms.leasts(alloc)
+}
+
+/// The answer to `ipsec`: the report on the IPsec goals.
+#[tactic(auto, using(crate::proofs::IpsecLaws::ipsec_settled))]
+fn ipsec<G: Regions>(alloc: Global, store: &mut G, net: Network) -> Result<Answer, AllocError>
+    ensures report { IfOk result (λ answer. IsIpsecReport net answer.text answer.status) }
+    ensures settled { IfOk result (λ answer. IsSettled answer.status × (answer.status ≢ Status.Usage)) }
+    ensures kept { KeepsRegions G.fits G.has_header store.old store.new }
+{
+    let leasts = ip_leasts(alloc, store, &net)?;
+    let answers = ip_answers(alloc, &net, leasts.as_slice())?;
+    answers_report(alloc, &net, answers.as_slice())
+}
+
 /// The answer to `show`: the network's canonical text.
 fn show(alloc: Global, net: Network) -> Result<Answer, AllocError>
     ensures report { IfOk result (λ answer. IsCanonical net answer.text answer.status) }
@@ -226,6 +289,10 @@ fn answer<G: Regions, S: Shelf>(
         Command::Synth(file) => {
             let inputs = load_inputs(alloc, shelf, file)?;
             synth(alloc, store, inputs)
+        }
+        Command::Ipsec(file) => {
+            let net = load_net(alloc, shelf, file)?;
+            Ok(ipsec(alloc, store, net)?)
         }
         Command::Trace(file, script) => {
             let play = load_play(alloc, shelf, file, script)?;

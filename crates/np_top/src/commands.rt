@@ -18,6 +18,9 @@ pub enum Command<'a> {
     /// `synth NET`
     Synth(&'a [u8]),
 
+    /// `ipsec NET`
+    Ipsec(&'a [u8]),
+
     /// `trace NET SCRIPT`
     Trace(&'a [u8], &'a [u8]),
 
@@ -33,6 +36,7 @@ fn command_on<'a>(word: &str, file: &'a [u8]) -> Option<Command<'a>>
         "check" => Some(Command::Check(file)),
         "atoms" => Some(Command::Atoms(file)),
         "synth" => Some(Command::Synth(file)),
+        "ipsec" => Some(Command::Ipsec(file)),
         "show" => Some(Command::Show(file)),
         _ => None,
     }

@@ -1,6 +1,6 @@
 //! The commands' texts, each with the status that goes with it.
 
-ghost use Rattle.std.specs.Prelude.{◌≡◌, ◌<◌, [], ℕ, length, slice_index_or, IfOk};
+ghost use Rattle.std.specs.Prelude.{◌≡◌, ◌<◌, [], ℕ, length, slice_index_or, IfOk, if◌then◌else◌};
 ghost use Rattle.std.specs.List.{All};
 ghost use Rattle.np_atomizer.specs.Atoms.{atoms_in, leasts_of, sets_in};
 ghost use Rattle.np_net_read.specs.Canonical.{net_text};
@@ -9,15 +9,19 @@ ghost use Rattle.np_report.specs.Verdicts.{HasInterfaces, is_holding, verdicts_t
 ghost use Rattle.np_report.specs.Verdicts as verdict_texts;
 ghost use Rattle.np_report.specs.Synthesis.{AreInOrder, HopsWithin, chosen_text, unattainable_text};
 ghost use Rattle.np_traj.specs.States.{IsStateOf};
+ghost use Rattle.np_ipsec_report.specs.Answers.{answers_text, HasPlaces};
+ghost use Rattle.np_ipsec_report.specs.Answers as answer_texts;
 ghost use Rattle.np_ipsec_report.specs.Replays.{replay_text};
 ghost use Rattle.np_top.specs.Report.{verdicts_status};
 ghost use Rattle.np_top.specs.Trace.{replay_status};
 
 use crate::status::Status;
 use np_atomizer::Atoms;
+use np_auth::Answer as AuthAnswer;
+use np_conf::Answer as ConfAnswer;
 use np_cut::Applied;
 use np_goals::Verdict;
-use np_ipsec_report::put_replay;
+use np_ipsec_report::{IpAnswer, put_answers, put_replay};
 use np_net::{Network, Path};
 use np_net_read::put_net;
 use np_report::{put_atoms, put_chosen, put_unattainable, put_verdicts};
@@ -159,6 +163,46 @@ pub fn replay_report<const N: usize>(
     let mut text = Vec::new(alloc);
     put_replay(alloc, &mut text, net, replay)?;
     let status = if replay.stop.is_none() && replay.breaches.is_empty() {
+        Status::Holds
+    } else {
+        Status::Fails
+    };
+    Ok(Answer {
+        text: Items::from_vec(text),
+        status,
+    })
+}
+
+/// Whether an answer on an IPsec goal is yes.
+fn is_yes(answer: &IpAnswer) -> bool
+    ensures { result ≡ answer_texts.is_yes answer.now }
+{
+    match answer {
+        IpAnswer::Auth(AuthAnswer::Yes) | IpAnswer::Conf(ConfAnswer::Yes) => true,
+        IpAnswer::Auth(AuthAnswer::No(_)) | IpAnswer::Conf(ConfAnswer::No(_)) => false,
+    }
+}
+
+/// Whether all are.
+fn all_yes(answers: &[IpAnswer]) -> bool
+    ensures { result ≡ answer_texts.all_yes answers.now }
+{
+    answers.iter().all(|answer| is_yes(answer))
+}
+
+/// The report on IPsec goals.
+pub fn answers_report(
+    alloc: Global,
+    net: &Network,
+    answers: &[IpAnswer],
+) -> Result<Answer, AllocError>
+    requires { All (HasPlaces net.now) answers.now }
+    ensures text { IfOk result (λ answer. answer.text ≡ answers_text net.now answers.now) }
+    ensures status { IfOk result (λ answer. answer.status ≡ (if answer_texts.all_yes answers.now then Status.Holds else Status.Fails)) }
+{
+    let mut text = Vec::new(alloc);
+    put_answers(alloc, &mut text, net, answers)?;
+    let status = if all_yes(answers) {
         Status::Holds
     } else {
         Status::Fails

@@ -6,7 +6,7 @@ ghost use Rattle.np_outside.specs.Files.{Files};
 ghost use Rattle.np_load.specs.Keeping.{KeepsShelf};
 ghost use Rattle.np_region.specs.Keeping.{KeepsRegions};
 ghost use Rattle.np_top.specs.Commands.{command_in, command_of};
-ghost use Rattle.np_top.specs.Outcome.{texts_of, AcceptsFiles, AreAccepted, HasFiles, IsAnswerTo, IsMaximalOutcome, IsMaximalFor, IsTrajectoryFor, IsTrajectoryOutcome, IsOutcome, IsDefined};
+ghost use Rattle.np_top.specs.Outcome.{texts_of, AcceptsFiles, AreAccepted, HasFiles, IsAnswerTo, IsMaximalOutcome, IsMaximalFor, IsSafeFor, IsSafeOutcome, IsTrajectoryFor, IsTrajectoryOutcome, IsOutcome, IsDefined};
 ghost use Rattle.np_top.specs.Report.{usage_text};
 ghost use Rattle.np_top.specs.Status.{IsReport, IsSettled, IsUnlessFault};
 ghost use Rattle.np_top.specs.Written.{Took, TookPrefix};
@@ -67,6 +67,8 @@ fn run_command<G: Regions, S: Shelf, K: Sink>(
         (text : List ℕ) × IsMaximalFor files (command_in command.entry) text × Took (K.taken sink.old) (K.taken sink.new) text }
     ensures trajectory { IsReport result → (files : Files) → S.files shelf.old ≡ Some files →
         (text : List ℕ) × IsTrajectoryFor files (command_in command.entry) text × Took (K.taken sink.old) (K.taken sink.new) text }
+    ensures safe { IsReport result → (files : Files) → S.files shelf.old ≡ Some files →
+        (text : List ℕ) × IsSafeFor files (command_in command.entry) text × Took (K.taken sink.old) (K.taken sink.new) text }
 
     ensures shelf { KeepsShelf S.files S.cap S.faults S.breaks shelf.old shelf.new }
     ensures faults_cap { K.cap sink.new ≡ K.cap sink.old }
@@ -135,9 +137,13 @@ pub fn run_in<R: Threads + Sync, G: Regions, S: Shelf, K: Sink>(
     // it, and letting one valid header cross a free slot that doesn't let it cross breaks one.
     ensures maximal { result ≡ Status.Holds → (files : Files) → S.files shelf.old ≡ Some files →
         (text : List ℕ) × IsMaximalOutcome (texts_of words.now) files text × Took (K.taken sink.old) (K.taken sink.new) text }
-    // Where the report on a replay is written, its states are a trajectory of the network's depth and of every larger one.
+    // Where the report on a replay is written, its states are a trajectory of the network's depth and of every larger one, and
+    // none of its breaches is of a goal whose local rules hold.
     ensures trajectory { IsReport result → (files : Files) → S.files shelf.old ≡ Some files →
         (text : List ℕ) × IsTrajectoryOutcome (texts_of words.now) files text × Took (K.taken sink.old) (K.taken sink.new) text }
+    // Where the report on IPsec goals is written, no state of any trajectory of any depth breaks a goal whose answer is yes.
+    ensures safe { IsReport result → (files : Files) → S.files shelf.old ≡ Some files →
+        (text : List ℕ) × IsSafeOutcome (texts_of words.now) files text × Took (K.taken sink.old) (K.taken sink.new) text }
 
     // What the shelf and the sink tell stays, and their counts do not fall.
     ensures files { S.files shelf.new ≡ S.files shelf.old }
@@ -164,6 +170,7 @@ pub fn run_in<R: Threads + Sync, G: Regions, S: Shelf, K: Sink>(
 /// `atoms NET` reads the same files, and writes the atoms of the network's filter cuts, with what each cut says of each.
 /// `synth NET` reads the same files, and writes a maximal posture that meets the goals, with what its free slots drop and
 /// why; or the first goal that is broken even with all free slots shut.
+/// `ipsec NET` reads the file NET, and writes for each IPsec goal whether its local rules hold, or the first that doesn't.
 /// `trace NET SCRIPT` reads the file NET and then the file SCRIPT, and writes what becomes of the script's packet: its states as
 /// far as its moves are legal, why one isn't, and which IPsec goals are broken.
 /// `show NET` reads the file NET, and writes the canonical text of the network that it declares.
@@ -216,9 +223,13 @@ pub fn run<R: Threads + Sync, S: Shelf, K: Sink>(
     // it, and letting one valid header cross a free slot that doesn't let it cross breaks one.
     ensures maximal { result ≡ Status.Holds → (files : Files) → S.files shelf.old ≡ Some files →
         (text : List ℕ) × IsMaximalOutcome (texts_of words.now) files text × Took (K.taken sink.old) (K.taken sink.new) text }
-    // Where the report on a replay is written, its states are a trajectory of the network's depth and of every larger one.
+    // Where the report on a replay is written, its states are a trajectory of the network's depth and of every larger one, and
+    // none of its breaches is of a goal whose local rules hold.
     ensures trajectory { IsReport result → (files : Files) → S.files shelf.old ≡ Some files →
         (text : List ℕ) × IsTrajectoryOutcome (texts_of words.now) files text × Took (K.taken sink.old) (K.taken sink.new) text }
+    // Where the report on IPsec goals is written, no state of any trajectory of any depth breaks a goal whose answer is yes.
+    ensures safe { IsReport result → (files : Files) → S.files shelf.old ≡ Some files →
+        (text : List ℕ) × IsSafeOutcome (texts_of words.now) files text × Took (K.taken sink.old) (K.taken sink.new) text }
 
     // What the shelf and the sink tell stays, and their counts do not fall.
     ensures files { S.files shelf.new ≡ S.files shelf.old }

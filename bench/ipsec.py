@@ -1,0 +1,68 @@
+#!/usr/bin/env python3
+"""Times `netpol ipsec` on networks with many associations, rules and goals.
+
+Usage: bench/ipsec.py [PROGRAM]
+
+Each case is written into a folder of its own and run once; the line says its seconds, its last line and its status. The
+default program is bin/netpol of this repository. Nothing here is a test: timings depend on the machine.
+"""
+
+import os
+import subprocess
+import sys
+import tempfile
+import time
+
+HERE = os.path.dirname(os.path.abspath(__file__))
+
+
+def star(associations, rules, goals):
+    """Gateways around a net that isn't trusted, each with an area of its own behind it; from each to the next so many
+    associations, with rules for the hosts that they protect, and goals between the areas."""
+    gateways = 8
+    net = ['area net 0.0.0.0/0']
+    net += [f'area x{k} 10.{k}.0.0/16 trusted' for k in range(gateways)]
+    net += [f'device g{k} trusted' for k in range(gateways)]
+    for k in range(gateways):
+        net += [f'interface g{k} e0 x{k}', f'interface g{k} e1 net']
+    each = associations // gateways
+    for k in range(gateways):
+        net += [f'sa t{k}-{n} esp g{k} g{(k + 1) % gateways}' for n in range(each)]
+    lines = []
+    for n in range(each):
+        for k in range(gateways):
+            to = (k + 1) % gateways
+            hosts = f'and src 10.{k}.{n}.0/24 dst 10.{to}.{n}.0/24'
+            lines += [
+                f'outrule g{k} e1 protect t{k}-{n} plain {hosts}',
+                f'outrule g{k} e1 bypass under t{k}-{n}',
+                f'pop g{to} e1 t{k}-{n}',
+                f'inrule g{to} e1 bypass popped t{k}-{n} plain {hosts}',
+            ]
+    net += lines[:rules]
+    for n in range(goals // 2):
+        k = n % gateways
+        net += [f'auth x{k} x{(k + 1) % gateways} and src x{k} dst 10.{(k + 1) % gateways}.{n}.0/24']
+        net += [f'conf x{k} and src x{k} dst 10.{(k + 1) % gateways}.{n}.0/24']
+    return net
+
+
+def run(program, net):
+    with tempfile.TemporaryDirectory() as folder:
+        with open(os.path.join(folder, 'net'), 'w') as file:
+            file.write('\n'.join(net) + '\n')
+        start = time.monotonic()
+        ended = subprocess.run([program, 'ipsec', 'net'], cwd=folder, stdout=subprocess.PIPE, check=False)
+        return time.monotonic() - start, ended
+
+
+def main():
+    program = os.path.abspath(sys.argv[1] if len(sys.argv) > 1 else os.path.join(HERE, '..', 'bin', 'netpol'))
+    for associations, rules, goals in ((16, 64, 16), (64, 256, 16), (256, 1024, 256)):
+        seconds, ended = run(program, star(associations, rules, goals))
+        last = ended.stdout.decode().splitlines()[-1:] or ['']
+        print(f'{associations} associations, {rules} rules, {goals} goals: {seconds:.2f} s, {last[0]}, status {ended.returncode}')
+
+
+if __name__ == '__main__':
+    main()

@@ -50,9 +50,9 @@ def run(program, net, configs):
 def main():
     program = os.path.abspath(sys.argv[1] if len(sys.argv) > 1 else os.path.join(HERE, '..', 'bin', 'netpol'))
     for slots in (8, 16, 32):
-        seconds, ended = run(program, *line(slots, 40))
+        seconds, ended = run(program, *line(slots, 120))
         first = ended.stdout.split(b'\n', 1)[0].decode()
-        print(f'{slots} free slots, {first}: {seconds:.2f} s, {len(ended.stdout)} bytes, status {ended.returncode}')
+        print(f'{slots} free slots, {first}: {seconds:.3f} s, {len(ended.stdout)} bytes, status {ended.returncode}')
 
 
 if __name__ == '__main__':

@@ -1,7 +1,6 @@
 -- How the answers on IPsec goals come to be right, and that what they name is the network's.
-use Rattle.std.proofs.Common.{◌≡◌, ℕ, zero, suc, ◌+◌, ◌<◌, ◌≤◌, inl, inr, List, [], ◌∷◌, ◌++◌, length, take, All, Option, Some, None, IfSome, slice_get, refl, sym, subst, add-one, arith}
+use Rattle.std.proofs.Common.{◌≡◌, ℕ, zero, suc, ◌+◌, ◌<◌, inl, inr, List, [], ◌∷◌, ◌++◌, length, take, All, Option, Some, None, IfSome, slice_get, refl, sym, subst, add-one, arith}
 use Rattle.std.specs.List.{AllByRecursion}
-use Rattle.std.proofs.lemmas.List.{take_all}
 use Rattle.std.proofs.lemmas.List.Elements.{All-cons, All-nil}
 use Rattle.std.proofs.lemmas.Option.{get_or_from_slice_get}
 use Rattle.np_pred.specs.declared.predicate.Pred.{Pred}
@@ -29,10 +28,10 @@ use Rattle.np_ipsec_report.specs.declared.answers.IpAnswer.{IpAnswer}
 use Rattle.np_ipsec_report.specs.declared.answers.IpAnswer.TheVariants as answers
 use Rattle.np_top.specs.Ipsec.{AreRightAnswers, IsRightAnswer}
 
--- ---- what is asked of each goal
+-- ---- the answer on one goal
 
 module _ (net : Plan) (k : ℕ) (lt : k < length net.ipgoals) where
-  -- an authentication goal is one, and what is answered of its areas and predicate is right
+  -- what is right of the areas and the predicate of an authentication goal is the right answer on it
   module _ (from here : ℕ) (pred : Pred) where
     auth_goal : slice_get net.ipgoals k ≡ Some (goals.Auth from here pred) → auth.IsAuthGoal net k from here pred
     auth_goal at = record { within = lt; stated = get_or_from_slice_get net.ipgoals k _ _ at }
@@ -69,10 +68,6 @@ module _ (net : Plan) where
   pub right_more : (k : ℕ) (found : List IpAnswer) (answer : IpAnswer) → k < length net.ipgoals → AreRightAnswers net (take k net.ipgoals) found →
       ((goal : IpGoal) → slice_get net.ipgoals k ≡ Some goal → IsRightAnswer net goal answer) → AreRightAnswers net (take (k + 1) net.ipgoals) (found ++ answer ∷ [])
   right_more k found answer lt are right = rw (add-one k) (one_added net.ipgoals k found answer lt are right)
-
-  -- and in the end those on all goals are
-  pub right_all : (k : ℕ) (found : List IpAnswer) → length net.ipgoals ≤ k → AreRightAnswers net (take k net.ipgoals) found → AreRightAnswers net net.ipgoals found
-  right_all k found le are = subst (λ goals. AreRightAnswers net goals found) (take_all k net.ipgoals le) are
 
 -- ---- what answers name
 

@@ -203,66 +203,69 @@ fn numbers_of_a_header_are_of_their_ranges(rt: HostRuntime) -> Result<(), Fail> 
     Ok(())
 }
 
+/// Scripts whose later lines are no moves, with the faulty line and its fault.
+const LATER_LINES: [(&str, u64, ScriptWhy); 11] = [
+    (
+        "start area x 0.0.0.0 0.0.0.0 0 0 0 0\n# caf\u{e9}\njump",
+        2,
+        ScriptWhy::NotText,
+    ),
+    (
+        "start area x 0.0.0.0 0.0.0.0 0 0 0 0\njump\n\u{7f}",
+        2,
+        ScriptWhy::BadMove,
+    ),
+    (
+        "start area x 0.0.0.0 0.0.0.0 0 0 0 0\npop\nstart area x 0.0.0.0 0.0.0.0 0 0 0 0",
+        3,
+        ScriptWhy::BadMove,
+    ),
+    (
+        "start area x 0.0.0.0 0.0.0.0 0 0 0 0\npop 1",
+        2,
+        ScriptWhy::BadMove,
+    ),
+    (
+        "start area x 0.0.0.0 0.0.0.0 0 0 0 0\n\n\nleave g e0",
+        4,
+        ScriptWhy::BadMove,
+    ),
+    (
+        "start area x 0.0.0.0 0.0.0.0 0 0 0 0\nenter h e0 more",
+        2,
+        ScriptWhy::UnknownName,
+    ),
+    (
+        "start area x 0.0.0.0 0.0.0.0 0 0 0 0\nenter g e0 more",
+        2,
+        ScriptWhy::BadMove,
+    ),
+    (
+        "start area x 0.0.0.0 0.0.0.0 0 0 0 0\ncross x",
+        2,
+        ScriptWhy::UnknownName,
+    ),
+    (
+        "start area x 0.0.0.0 0.0.0.0 0 0 0 0\ncross g",
+        2,
+        ScriptWhy::BadMove,
+    ),
+    (
+        "start area x 0.0.0.0 0.0.0.0 0 0 0 0\npush",
+        2,
+        ScriptWhy::BadMove,
+    ),
+    (
+        "start area x 0.0.0.0 0.0.0.0 0 0 0 0\npush h\npush",
+        2,
+        ScriptWhy::UnknownName,
+    ),
+];
+
 #[test]
 fn later_lines_are_moves(rt: HostRuntime) -> Result<(), Fail> {
     let net = network(rt.alloc())?;
-    for (text, line, why) in [
-        (
-            "start area x 0.0.0.0 0.0.0.0 0 0 0 0\n# caf\u{e9}\njump",
-            2,
-            ScriptWhy::NotText,
-        ),
-        (
-            "start area x 0.0.0.0 0.0.0.0 0 0 0 0\njump\n\u{7f}",
-            2,
-            ScriptWhy::BadMove,
-        ),
-        (
-            "start area x 0.0.0.0 0.0.0.0 0 0 0 0\npop\nstart area x 0.0.0.0 0.0.0.0 0 0 0 0",
-            3,
-            ScriptWhy::BadMove,
-        ),
-        (
-            "start area x 0.0.0.0 0.0.0.0 0 0 0 0\npop 1",
-            2,
-            ScriptWhy::BadMove,
-        ),
-        (
-            "start area x 0.0.0.0 0.0.0.0 0 0 0 0\n\n\nleave g e0",
-            4,
-            ScriptWhy::BadMove,
-        ),
-        (
-            "start area x 0.0.0.0 0.0.0.0 0 0 0 0\nenter h e0 more",
-            2,
-            ScriptWhy::UnknownName,
-        ),
-        (
-            "start area x 0.0.0.0 0.0.0.0 0 0 0 0\nenter g e0 more",
-            2,
-            ScriptWhy::BadMove,
-        ),
-        (
-            "start area x 0.0.0.0 0.0.0.0 0 0 0 0\ncross x",
-            2,
-            ScriptWhy::UnknownName,
-        ),
-        (
-            "start area x 0.0.0.0 0.0.0.0 0 0 0 0\ncross g",
-            2,
-            ScriptWhy::BadMove,
-        ),
-        (
-            "start area x 0.0.0.0 0.0.0.0 0 0 0 0\npush",
-            2,
-            ScriptWhy::BadMove,
-        ),
-        (
-            "start area x 0.0.0.0 0.0.0.0 0 0 0 0\npush h\npush",
-            2,
-            ScriptWhy::UnknownName,
-        ),
-    ] {
+    for (text, line, why) in LATER_LINES {
         assert_eq!(rt;
             fault_of(rt.alloc(), &net, text),
             Some(ScriptFault { line, why }),

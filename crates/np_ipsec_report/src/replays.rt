@@ -5,7 +5,7 @@ ghost use Rattle.std.specs.Fmt.{decimal};
 ghost use Rattle.std.specs.List.{All, flat_map};
 ghost use Rattle.np_text.specs.Appending.{AppendsFront};
 ghost use Rattle.np_net.specs.Naming.{sa_name};
-ghost use Rattle.np_net_read.specs.CanonicalText.{line_text, lines_text, spaced};
+ghost use Rattle.np_net_text.specs.CanonicalText.{line_text, lines_text, spaced};
 ghost use Rattle.np_ipsec.specs.Steps.{IsPlace};
 ghost use Rattle.np_traj.specs.States.{IsStateOf};
 ghost use Rattle.np_ipsec_report.specs.Replays as report;

@@ -1,5 +1,6 @@
 pub mod DeclarationLaws
 pub mod DraftLaws
+pub mod FilterLaws
 pub mod LineReading
 pub mod ListLaws
 pub mod NetworkLaws

@@ -7,6 +7,7 @@ mod endings;
 mod fault;
 mod ipsec_statements;
 mod ipsec_words;
+mod laws;
 mod lines;
 mod reading;
 mod statement;
@@ -15,4 +16,5 @@ mod tables;
 mod tokens;
 
 pub use fault::{NetError, NetFault, NetWhy};
+pub use laws::tables_are_filters;
 pub use reading::read_net;

@@ -2,8 +2,8 @@
 
 ghost use Rattle.std.specs.Prelude.{◌≡◌, ◌++◌, ◌<◌, length, OnOk};
 ghost use Rattle.np_net.specs.Path as path;
-ghost use Rattle.np_net_read.specs.CanonicalText.{spaced};
-ghost use Rattle.np_ipsec_report.specs.Replays.{interface_words};
+ghost use Rattle.np_net_text.specs.CanonicalText.{spaced};
+ghost use Rattle.np_script.specs.Written.{interface_words};
 
 use np_net::{DevId, IfId, Network, device_name, interface_name};
 use np_report::put_word;

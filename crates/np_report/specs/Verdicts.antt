@@ -6,7 +6,8 @@ use Rattle.np_net.specs.Plan.{Plan}
 use Rattle.np_net.specs.declared.filtering.Interface.{Interface}
 use Rattle.np_goals.specs.declared.verdicts.Verdict.{Verdict}
 use Rattle.np_goals.specs.declared.verdicts.Verdict.TheVariants.{Holds, Violated}
-use Rattle.np_report.specs.Words.{text_of, header_words, hop_lines}
+use Rattle.np_script.specs.Written.{header_words}
+use Rattle.np_report.specs.Words.{text_of, hop_lines}
 
 -- the lines of the goal of this number: that it holds, or the least header that breaks it and the hops of its first path
 abbrev pub verdict_lines : Plan → ℕ → Verdict → List (List (List ℕ))

@@ -6,8 +6,8 @@ ghost use Rattle.np_text.specs.Appending.{AppendsFront};
 ghost use Rattle.np_atomset.specs.AtomSet.{has_member};
 ghost use Rattle.np_atomizer.specs.Atoms.{atoms_in, leasts_of, sets_in};
 ghost use Rattle.np_net.specs.Naming.{device_name};
-ghost use Rattle.np_net_read.specs.CanonicalText.{line_text, lines_text, spaced};
-ghost use Rattle.np_report.specs.Words.{header_words};
+ghost use Rattle.np_net_text.specs.CanonicalText.{line_text, lines_text, spaced};
+ghost use Rattle.np_script.specs.Written.{header_words};
 ghost use Rattle.np_report.specs.Atoms.{atoms_text, atom_lines, goal_lines, list_lines, digits};
 
 use crate::words::{put_header, put_number_word, put_word};

@@ -3,7 +3,7 @@
 ghost use Rattle.std.specs.Prelude.{◌≡◌, ◌<◌, [], ℕ, length, slice_index_or, IfOk, if◌then◌else◌};
 ghost use Rattle.std.specs.List.{All};
 ghost use Rattle.np_atomizer.specs.Atoms.{atoms_in, leasts_of, sets_in};
-ghost use Rattle.np_net_read.specs.Canonical.{net_text};
+ghost use Rattle.np_net_text.specs.Canonical.{net_text};
 ghost use Rattle.np_report.specs.Atoms.{atoms_text};
 ghost use Rattle.np_report.specs.Verdicts.{HasInterfaces, is_holding, verdicts_text};
 ghost use Rattle.np_report.specs.Verdicts as verdict_texts;
@@ -23,7 +23,7 @@ use np_cut::Applied;
 use np_goals::Verdict;
 use np_ipsec_report::{IpAnswer, put_answers, put_replay};
 use np_net::{Network, Path};
-use np_net_read::put_net;
+use np_net_text::put_net;
 use np_report::{put_atoms, put_chosen, put_unattainable, put_verdicts};
 use np_space::Header;
 use np_synth::Chosen;

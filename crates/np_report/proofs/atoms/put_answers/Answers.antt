@@ -1,5 +1,5 @@
 use Rattle.np_atomizer.specs.Atoms.{sets_in}
-use Rattle.np_report.specs.Words.{header_words}
+use Rattle.np_script.specs.Written.{header_words}
 use Rattle.np_report.specs.Atoms.{digits}
 use Rattle.np_report.proofs.AtomLaws.{word_appended}
 use Rattle.np_report.proofs.atoms.put_answers.Goals as goal

@@ -1,6 +1,6 @@
 use Rattle.std.proofs.Common.{◌≡◌, ◌++◌, drop}
 use Rattle.np_atomizer.specs.Atoms.{atoms_in, leasts_of, sets_in}
-use Rattle.np_net_read.specs.CanonicalText.{lines_text}
+use Rattle.np_net_text.specs.CanonicalText.{lines_text}
 use Rattle.np_report.specs.Atoms.{atom_lines}
 use Rattle.np_report.proofs.atoms.put_each_atom.Given as goal
 

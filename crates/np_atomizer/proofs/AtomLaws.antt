@@ -20,8 +20,9 @@ use Rattle.np_space.proofs.FlagLemmas.{flag_small, same_answers, and_both}
 use Rattle.np_space.proofs.HeaderLemmas.{order_total}
 use Rattle.np_region.specs.Keeping.{KeepsRegions, EachFits, tests_of}
 use Rattle.np_atoms.specs.Atoms.{cut_sets, AreAtoms}
-use Rattle.np_atomizer.specs.Splitting.{DivideValid, number_in, count_having, HasSome, IsClass, AreClasses, IsRead, regions_of, leasts_of, AreInOrder}
-use Rattle.np_atomizer.specs.declared.splitting.Atom.{Atom}
+use Rattle.np_atomizer.specs.Splitting.{DivideValid, number_in, count_having, HasSome, IsClass, AreClasses, IsRead, AreInOrder}
+use Rattle.np_atomizer.specs.AtomList.{regions_of, leasts_of, is_before}
+use Rattle.np_atomizer.specs.declared.atom_list.Atom.{Atom}
 use Rattle.np_atomizer.proofs.SplitLaws.{both_true, count_cons}
 
 -- ---- numbers
@@ -178,7 +179,7 @@ module _ {S R : Type 0} (fits : S → R → Type 0) (has : S → R → Header �
   IsNotAfter x y = is_lt (header_order y.least x.least) ≡ false
 
   -- so it is with any two of a sorted list
-  pairs_from_sorted : (atoms : List (Atom R)) → IsSortedBy (λ x y. is_lt (header_order x.least y.least)) atoms → AllPairs IsNotAfter atoms
+  pairs_from_sorted : (atoms : List (Atom R)) → IsSortedBy is_before atoms → AllPairs IsNotAfter atoms
   pairs_from_sorted atoms sorted i j d l m =
       sorted_far (λ x y. is_lt (header_order x.least y.least)) (ranks_by order_total (λ (x : Atom R). x.least)) atoms sorted i j d (omega arith) m
 
@@ -239,7 +240,7 @@ module _ {S R : Type 0} (fits : S → R → Type 0) (has : S → R → Header �
         }
 
     -- sorted atoms are the atoms of the tests
-    pub atoms_in_order : (s : S) (tests : List (Header → Bool)) (atoms : List (Atom R)) → All (IsAtom s tests) atoms → ((h : Header) → count_having has s (regions_of atoms) h ≡ flag_number (is_valid_header h)) → IsSortedBy (λ x y. is_lt (header_order x.least y.least)) atoms → AreInOrder fits has s tests atoms
+    pub atoms_in_order : (s : S) (tests : List (Header → Bool)) (atoms : List (Atom R)) → All (IsAtom s tests) atoms → ((h : Header) → count_having has s (regions_of atoms) h ≡ flag_number (is_valid_header h)) → IsSortedBy is_before atoms → AreInOrder fits has s tests atoms
     atoms_in_order s tests atoms all count sorted =
         record {
           leasts = record {
@@ -295,7 +296,7 @@ module _ {S R : Type 0} (fits : S → R → Type 0) (has : S → R → Header �
             subst (λ x. IsAlike tests x h) (sym (get_or_inside (λ (x : Atom R). x.least) atoms n e d below)) (atom.class.only a.least h atom.least.has here)
 
     -- the atoms that are read of the classes, once they are sorted
-    pub atoms_sorted : (s : S) (classes : List R) (before after : List (Atom R)) → regions_of before ≡ classes → All (IsRead has s) before → IsPermutation before after → IsSortedBy (λ x y. is_lt (header_order x.least y.least)) after → (tests : List (Header → Bool)) → AreClasses fits has s tests classes → AreInOrder fits has s tests after
+    pub atoms_sorted : (s : S) (classes : List R) (before after : List (Atom R)) → regions_of before ≡ classes → All (IsRead has s) before → IsPermutation before after → IsSortedBy is_before after → (tests : List (Header → Bool)) → AreClasses fits has s tests classes → AreInOrder fits has s tests after
     atoms_sorted s classes before after same read moved sorted tests are =
         let all : All (IsAtom s tests) before =
         all_atoms s tests before (subst (All (IsClass fits has s tests)) (sym same) are.each) read in

@@ -1,5 +1,5 @@
 -- How classes are made by cutting regions, over any store.
-use Rattle.std.specs.Prelude.{◌≡◌, ◌++◌, ◌∷◌, [], ℕ, Bool, false, IsTrue, List, map, sum_by}
+use Rattle.std.specs.Prelude.{◌≡◌, ◌++◌, ◌∷◌, [], ℕ, Bool, false, IsTrue, List, sum_by}
 use Rattle.std.specs.List.{All, position_or_len}
 use Rattle.np_space.specs.Flag.{flag_number}
 use Rattle.np_space.specs.Header.{is_valid_header, IsValid, IsLeast}
@@ -7,7 +7,8 @@ use Rattle.np_space.specs.declared.headers.Header.{Header}
 use Rattle.np_region.specs.Keeping.{EachFits}
 use Rattle.np_space.specs.Classes.{IsAlike, AreLeasts}
 use Rattle.np_atomizer.specs.Numbers.{AreNumbers}
-use Rattle.np_atomizer.specs.declared.splitting.Atom.{Atom}
+use Rattle.np_atomizer.specs.AtomList.{regions_of, leasts_of}
+use Rattle.np_atomizer.specs.declared.atom_list.Atom.{Atom}
 
 -- ---- what stands in the clauses of the store of lists
 
@@ -59,14 +60,6 @@ pub record HasParts {S R : Type 0} (fits : S → R → Type 0) (has : S → R �
 -- an atom with its least member
 abbrev pub IsRead : {S R : Type 0} → (S → R → Header → Bool) → S → Atom R → Type 0
 IsRead has s a = IsLeast (has s a.region) a.least
-
--- the regions of the atoms
-abbrev pub regions_of : {R : Type 0} → List (Atom R) → List R
-regions_of atoms = map (λ a. a.region) atoms
-
--- the least members of the atoms
-abbrev pub leasts_of : {R : Type 0} → List (Atom R) → List Header
-leasts_of atoms = map (λ a. a.least) atoms
 
 -- the atoms of the tests in the order of their least members, and the numbers of their regions
 pub record AreInOrder {S R : Type 0} (fits : S → R → Type 0) (has : S → R → Header → Bool) (s : S) (tests : List (Header → Bool)) (atoms : List (Atom R)) : Type 0 where

@@ -2,6 +2,7 @@
 //! store.
 #![tactic(auto)]
 
+mod atom_list;
 mod atomizer;
 mod block_lists;
 mod splitting;

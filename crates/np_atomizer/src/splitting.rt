@@ -7,22 +7,17 @@ ghost use Rattle.np_space.specs.declared.headers.Header.{Header};
 ghost use Rattle.np_region.specs.Keeping.{KeepsRegions, EachFits, tests_of};
 ghost use Rattle.np_atoms.specs.Atoms.{cut_sets, AreAtoms};
 ghost use Rattle.np_atomizer.specs.Numbers.{AreNumbers};
-ghost use Rattle.np_atomizer.specs.Splitting.{DivideValid, number_in, HasSome, AreClasses, HasParts, IsRead, regions_of, leasts_of, AreInOrder};
+ghost use Rattle.np_atomizer.specs.AtomList.{regions_of};
+ghost use Rattle.np_atomizer.specs.Splitting.{DivideValid, number_in, HasSome, AreClasses, HasParts, IsRead, AreInOrder};
 
+use crate::atom_list::{Atom, in_order, least_members, regions};
 use crate::atomizer::Atomized;
 use np_atoms::Atoms;
 use np_atomset::AtomSet;
 use np_region::Regions;
-use np_space::{Header, order};
+use np_space::Header;
 use sqlite_items::Items;
 use std::alloc::{AllocError, Global};
-
-// A class of headers that no cut tells apart: its region and its least member.
-#[derive(Drop)]
-pub(crate) struct Atom<R> {
-    pub(crate) region: R,
-    pub(crate) least: Header,
-}
 
 // Adds the parts of the region that the cut tells apart: the region as it is, where the cut has all
 // of its headers or none.
@@ -168,7 +163,7 @@ fn sets_of<S: Regions>(
 }
 
 // The atoms of the classes, in the order of their least members.
-fn in_order<S: Regions>(
+fn atoms_of<S: Regions>(
     alloc: Global,
     store: &S,
     classes: Vec<S::R>,
@@ -177,23 +172,8 @@ fn in_order<S: Regions>(
     requires some { All (HasSome S.has_header store.now) classes.items }
     ensures { IfOk result (λ v. (tests : List (Header → Bool)) → AreClasses S.fits S.has_header store.now tests classes.items → AreInOrder S.fits S.has_header store.now tests v.items) }
 {
-    let mut atoms = atoms_with(alloc, store, classes)?;
-    atoms.sort_unstable_by(|x, y| order(&x.least, &y.least));
-    Ok(atoms)
-}
-
-// The least members of the atoms.
-fn least_members<R: Drop>(alloc: Global, atoms: &[Atom<R>]) -> Result<Vec<Header>, AllocError>
-    ensures { IfOk result (λ v. v.items ≡ leasts_of atoms.now) }
-{
-    atoms.iter().map(|atom| atom.least).collect(alloc)
-}
-
-// The regions of the atoms.
-fn regions<R: Drop>(alloc: Global, atoms: Vec<Atom<R>>) -> Result<Vec<R>, AllocError>
-    ensures { IfOk result (λ v. v.items ≡ regions_of atoms.items) }
-{
-    atoms.into_iter().map(|atom| atom.region).collect(alloc)
+    let atoms = atoms_with(alloc, store, classes)?;
+    Ok(in_order(atoms))
 }
 
 // The atoms of the cuts, with their regions in their order.
@@ -210,7 +190,7 @@ pub(crate) fn split<S: Regions>(
     ensures numbers { IfOk result (λ r. AreNumbers (tests_of S.has_header store.old cuts.now) r.atoms.leasts (number_in (S.has_header store.new) r.classes.items)) }
 {
     let classes = classes_of(alloc, store, cuts)?;
-    let atoms = in_order(alloc, store, classes)?;
+    let atoms = atoms_of(alloc, store, classes)?;
     let leasts = Items::from_vec(least_members(alloc, &atoms)?);
     let cuts = sets_of(alloc, store, leasts.as_slice(), cuts)?;
     let classes = regions(alloc, atoms)?;

@@ -1,8 +1,9 @@
 use Rattle.std.proofs.Common.{List, sym, ◌∙◌, ap, subst}
 use Rattle.np_region.specs.Keeping.{tests_of}
 use Rattle.np_atoms.specs.Atoms.{cut_sets}
-use Rattle.np_atomizer.specs.Splitting.{DivideValid, leasts_of}
-use Rattle.np_atomizer.specs.declared.splitting.Atom.{Atom}
+use Rattle.np_atomizer.specs.Splitting.{DivideValid}
+use Rattle.np_atomizer.specs.AtomList.{leasts_of}
+use Rattle.np_atomizer.specs.declared.atom_list.Atom.{Atom}
 use Rattle.np_atomizer.proofs.AtomLaws.{atoms_with_sets}
 use Rattle.np_atomizer.proofs.splitting.split.Goals as goal
 

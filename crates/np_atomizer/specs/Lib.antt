@@ -1,2 +1,3 @@
-pub mod Atoms
+pub mod AtomList
+pub mod Numbers
 pub mod Splitting

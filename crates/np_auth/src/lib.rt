@@ -4,8 +4,12 @@
 
 mod answers;
 mod checking;
+mod gathering;
 mod laws;
+mod marking;
 
 pub use answers::{Answer, Broken};
 pub use checking::check_auth;
+pub use gathering::passages;
 pub use laws::{answers_are_unique, rules_are_sound};
+pub use marking::{Passage, Passages};

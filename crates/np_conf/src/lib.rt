@@ -10,8 +10,12 @@ mod answers;
 mod checking;
 mod gathering;
 mod laws;
+mod leaving;
+mod noting;
 mod ways;
 
 pub use answers::{Answer, Broken};
 pub use checking::check_conf;
 pub use laws::{answers_are_unique, rules_are_sound};
+pub use leaving::{Outlet, Outlets};
+pub use noting::outlets;

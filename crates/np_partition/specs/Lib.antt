@@ -1,2 +1,4 @@
 pub mod Diagram
 pub mod Partition
+pub mod Least
+pub mod Region

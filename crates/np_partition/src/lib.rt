@@ -2,7 +2,9 @@
 //! where some tests say the same of both.
 #![tactic(auto)]
 
+mod least;
 mod partition;
+mod region;
 mod shows;
 
 pub use partition::Partition;

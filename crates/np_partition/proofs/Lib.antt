@@ -1,0 +1,3 @@
+pub mod DiagramLaws
+pub mod LeastLaws
+pub mod RegionLaws

@@ -1,1 +1,2 @@
 pub mod DiagramLaws
+pub mod PlaceLaws

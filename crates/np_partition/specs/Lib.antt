@@ -1,2 +1,3 @@
 pub mod Diagram
 pub mod Partition
+pub mod Places

@@ -3,6 +3,7 @@
 #![tactic(auto)]
 
 mod partition;
+mod places;
 mod shows;
 
 pub use partition::Partition;

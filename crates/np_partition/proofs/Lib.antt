@@ -1,2 +1,5 @@
+pub mod BitLaws
 pub mod DiagramLaws
+pub mod MemoLaws
+pub mod PairLaws
 pub mod PlaceLaws

@@ -1,3 +1,4 @@
 pub mod Diagram
+pub mod Pairing
 pub mod Partition
 pub mod Places

@@ -2,8 +2,11 @@
 //! where some tests say the same of both.
 #![tactic(auto)]
 
+mod pair_memo;
+mod pairing;
 mod partition;
 mod places;
+mod product;
 mod shows;
 
 pub use partition::Partition;

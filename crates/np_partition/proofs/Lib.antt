@@ -3,3 +3,5 @@ pub mod DiagramLaws
 pub mod MemoLaws
 pub mod PairLaws
 pub mod PlaceLaws
+pub mod ProductLaws
+pub mod SetLaws

@@ -2,3 +2,4 @@ pub mod Diagram
 pub mod Pairing
 pub mod Partition
 pub mod Places
+pub mod Product

@@ -62,6 +62,10 @@ pub record AddsAtMost (pair : ℕ × ℕ) (old new : Pairing) : Type 0 where
 pub record AddsReached (first second : List Show) (x y : ℕ) (old new : Pairing) : Type 0 where
   pub only : (n : ℕ) (pair : ℕ × ℕ) → pair_of new n ≡ Some pair → (pair_of old n ≡ Some pair) ⊎ AreReached first second x y pair
 
+-- each class stands for a pair of classes to which some bits lead from the two places
+pub record AreAllReached (first second : List Show) (x y : ℕ) (pairing : Pairing) : Type 0 where
+  pub each : (n : ℕ) (pair : ℕ × ℕ) → pair_of pairing n ≡ Some pair → AreReached first second x y pair
+
 -- ---- the memo
 
 -- the same first number, and the same second one

@@ -2,6 +2,7 @@
 //! where some tests say the same of both.
 #![tactic(auto)]
 
+mod class_sets;
 mod pair_memo;
 mod pairing;
 mod partition;

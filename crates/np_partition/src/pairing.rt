@@ -1,7 +1,6 @@
 //! A diagram while it is made of two others: its classes are the pairs of their classes that bits lead to.
 
-ghost use Rattle.std.specs.Prelude.{◌≡◌, List, IfOk, OnOk};
-ghost use Rattle.np_partition.specs.declared.shows.Show.{Show};
+ghost use Rattle.std.specs.Prelude.{◌≡◌, [], IfOk, OnOk};
 ghost use Rattle.np_partition.specs.Pairing.{KeepsPairing, IsPlaceOfPair, AddsAtMost};
 
 use crate::places::Places;
@@ -16,6 +15,16 @@ pub(crate) struct Pairing {
 }
 
 impl Pairing {
+    /// The diagram that has no place yet, and no class.
+    pub(crate) fn new(alloc: Global) -> Pairing
+        ensures { result.pairs.keys ≡ [] }
+    {
+        Pairing {
+            places: Places::new(alloc),
+            pairs: IndexSet::new(alloc),
+        }
+    }
+
     /// A place for the pair of classes, whose own class is new unless the pair had one.
     pub(crate) fn class(&mut self, pair: (usize, usize)) -> Result<usize, AllocError>
         ensures kept { OnOk result (KeepsPairing self.old self.new) }

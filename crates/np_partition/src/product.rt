@@ -1,15 +1,22 @@
 //! The product of two partitions.
 
-ghost use Rattle.std.specs.Prelude.{◌≡◌, ◌<◌, ◌≤◌, length, IfOk, OnOk, IfSome, IsNone};
+ghost use Rattle.std.specs.Prelude.{◌≡◌, ◌<◌, ◌≤◌, Bool, List, ◌++◌, length, IfOk, OnOk, IfSome, IsNone};
+ghost use Rattle.np_space.specs.declared.headers.Header.{Header};
 ghost use Rattle.np_bdd.specs.Views.{Bits};
 ghost use Rattle.np_partition.specs.Diagram.{bit_at, IsDiagram};
 ghost use Rattle.np_partition.specs.Places.{IsSplit};
-ghost use Rattle.np_partition.specs.Pairing.{classes_at, lesser_bit, AreHalves, KeepsPairing, IsPaired, AddsReached, IsPairMemo};
+ghost use Rattle.np_partition.specs.Pairing.{classes_at, lesser_bit, AreHalves, KeepsPairing, IsPaired, AddsReached, AreAllReached, IsPairMemo};
+ghost use Rattle.np_partition.specs.Product.{sets_at, firsts, seconds, IsProduct};
+ghost use Rattle.np_partition.specs.Partition.{IsPartition};
 
+use crate::class_sets::{firsts, seconds, sets_at};
 use crate::pair_memo::PairMemo;
 use crate::pairing::Pairing;
+use crate::partition::Partition;
 use crate::shows::Show;
-use std::alloc::AllocError;
+use np_atomset::AtomSet;
+use sqlite_items::Items;
+use std::alloc::{AllocError, Global};
 
 // The places of a test's two branches.
 #[derive(Clone, Copy)]
@@ -111,5 +118,79 @@ impl Pairing {
         let z = self.places.test(halves.bit, low, high)?;
         memo.learn(x, y, z)?;
         Ok(z)
+    }
+}
+
+// For each set of the first partition, and then of the second, the pairs of classes that it has.
+fn sets_of_pairs(
+    alloc: Global,
+    pairs: &[(usize, usize)],
+    first: &[AtomSet],
+    second: &[AtomSet],
+) -> Result<Items<AtomSet>, AllocError>
+    ensures { IfOk result (λ sets. sets ≡ sets_at first.now (firsts pairs.now) ++ sets_at second.now (seconds pairs.now)) }
+{
+    let numbers = firsts(alloc, pairs)?;
+    let mut sets = sets_at(alloc, first, numbers.as_slice())?;
+    let numbers = seconds(alloc, pairs)?;
+    sets.append(sets_at(alloc, second, numbers.as_slice())?)?;
+    Ok(sets)
+}
+
+// The product, with the root and the pairs that its classes stand for.
+fn paired(
+    alloc: Global,
+    first: &Partition,
+    second: &Partition,
+    pairing: Pairing,
+    root: usize,
+) -> Result<Partition, AllocError>
+    requires paired { IsPaired first.now.shows second.now.shows first.now.root second.now.root pairing root }
+    requires reached { AreAllReached first.now.shows second.now.shows first.now.root second.now.root pairing }
+    ensures { IfOk result (IsProduct first.now second.now pairing.pairs.keys) }
+{
+    let Pairing { places, pairs } = pairing;
+    let sets = sets_of_pairs(
+        alloc,
+        pairs.as_slice(),
+        first.sets.as_slice(),
+        second.sets.as_slice(),
+    )?;
+    Ok(Partition {
+        shows: places.finish(),
+        root,
+        classes: pairs.len(),
+        sets,
+    })
+}
+
+impl Partition {
+    /// The classes that the tests of both partitions tell apart together: those of the first, and then those of the second. Fails
+    /// only for want of memory. It makes a place for each pair of places to which the same bits lead, and looks at each set once
+    /// for each class.
+    pub fn with(
+        alloc: Global,
+        first: &Partition,
+        second: &Partition,
+    ) -> Result<Partition, AllocError>
+        requires first { IsDiagram first.now.shows }
+        requires first_root { first.now.root < length first.now.shows }
+        requires second { IsDiagram second.now.shows }
+        requires second_root { second.now.root < length second.now.shows }
+        ensures { IfOk result (λ p. (xs ys : List (Header → Bool)) → IsPartition xs first.now → IsPartition ys second.now → IsPartition (xs ++ ys) p) }
+    {
+        let mut pairing = Pairing::new(alloc);
+        let root = {
+            let mut memo = PairMemo::new(alloc);
+            pairing.pair(
+                &mut memo,
+                first.shows.as_slice(),
+                second.shows.as_slice(),
+                first.root,
+                second.root,
+            )?
+        };
+        let product = paired(alloc, first, second, pairing, root)?;
+        Ok(product)
     }
 }

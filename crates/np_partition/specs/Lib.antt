@@ -1,4 +1,5 @@
 pub mod Diagram
+pub mod NodePlaces
 pub mod Pairing
 pub mod Partition
 pub mod Places

@@ -1,2 +1,6 @@
 pub mod Diagram
+pub mod NodePlaces
+pub mod Pairing
 pub mod Partition
+pub mod Places
+pub mod Product

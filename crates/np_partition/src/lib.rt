@@ -2,7 +2,16 @@
 //! where some tests say the same of both.
 #![tactic(auto)]
 
+mod asking;
+mod class_sets;
+mod node_memo;
+mod of_region;
+mod of_regions;
+mod pair_memo;
+mod pairing;
 mod partition;
+mod places;
+mod product;
 mod shows;
 
 pub use partition::Partition;

@@ -4,6 +4,7 @@
 
 mod asking;
 mod class_sets;
+mod least;
 mod node_memo;
 mod of_region;
 mod of_regions;
@@ -12,6 +13,7 @@ mod pairing;
 mod partition;
 mod places;
 mod product;
+mod region;
 mod shows;
 
 pub use partition::Partition;

@@ -38,8 +38,9 @@ fn members_at(alloc: Global, set: &AtomSet, numbers: &[usize]) -> Result<AtomSet
     Ok(members)
 }
 
-/// For each set the set that has k where the first one has the number at place k.
-pub(crate) fn sets_at(
+/// For each set the set that has k where the first one has the number at place k. A number past the end of a set is none of its
+/// members. Fails only for want of memory.
+pub fn sets_at(
     alloc: Global,
     sets: &[AtomSet],
     numbers: &[usize],

@@ -16,4 +16,5 @@ mod product;
 mod region;
 mod shows;
 
+pub use class_sets::sets_at;
 pub use partition::Partition;

@@ -1,3 +1,4 @@
 pub mod SplitLaws
 pub mod AtomLaws
 pub mod SetLaws
+pub mod ClassLists

@@ -1,3 +1,4 @@
 pub mod AtomList
+pub mod ClassAtoms
 pub mod Numbers
 pub mod Splitting

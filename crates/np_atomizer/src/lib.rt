@@ -5,6 +5,7 @@
 mod atom_list;
 mod atomizer;
 mod block_lists;
+mod class_atoms;
 mod splitting;
 
 pub use atomizer::{Atomized, Atomizer};

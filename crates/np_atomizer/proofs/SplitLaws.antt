@@ -18,7 +18,7 @@ use Rattle.np_atomizer.specs.Splitting.{count_having, HasSome, IsClass, AreClass
 -- ---- tests of two flags
 
 -- both flags are set
-both_true : (r c : Bool) → (r && c) ≡ true → (r ≡ true) × (c ≡ true)
+pub both_true : (r c : Bool) → (r && c) ≡ true → (r ≡ true) × (c ≡ true)
 both_true true c e = (refl, e)
 both_true false c e = absurd (true≢false (sym e))
 

@@ -1,0 +1,3 @@
+mod DrawnLaws
+mod EntryLaws
+mod ConfigLaws

@@ -1,6 +1,8 @@
 //! What the lines of a configuration declare.
 
-ghost use Rattle.std.specs.Prelude.{◌≡◌, ◌<◌, [], OnOk};
+ghost use Rattle.std.specs.Prelude.{◌≡◌, ◌<◌, [], length, option_map, IfOk, OnOk};
+ghost use Rattle.std.specs.Map.{lookup};
+ghost use Rattle.std.specs.Str.{bytes_eq};
 ghost use Rattle.np_acl_read.specs.Adding.{Fits, added, entry_limit, with_numbered};
 ghost use Rattle.np_acl_read.specs.Declaring.{closed_list, declared_by_config};
 
@@ -63,8 +65,25 @@ impl Declared {
         }
     }
 
+    /// How many entries the list of this name has. `None` where there is no such list.
+    pub fn entry_count(&self, list: &Name) -> Option<usize>
+        ensures { result ≡ option_map length (lookup (bytes_eq list.now) self.now.lists) }
+    {
+        let entries = self.lists.entries(list)?;
+        Some(entries.count())
+    }
+
+    /// What is declared with one more statement. An error comes only where memory runs out.
+    pub fn with(mut self, alloc: Global, statement: Statement) -> Result<Declared, AllocError>
+        requires { Fits self statement }
+        ensures { IfOk result (λ declared. declared ≡ added self statement) }
+    {
+        self.add(alloc, statement)?;
+        Ok(self)
+    }
+
     /// Adds what a statement declares.
-    pub fn add(&mut self, alloc: Global, statement: Statement) -> Result<(), AllocError>
+    pub(crate) fn add(&mut self, alloc: Global, statement: Statement) -> Result<(), AllocError>
         requires { Fits self.old statement }
         ensures { OnOk result (self.new ≡ added self.old statement) }
     {

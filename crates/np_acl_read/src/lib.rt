@@ -15,8 +15,11 @@ mod statement;
 mod words;
 
 pub use config::{Config, Lists, empty_config};
+pub use declared::{Declared, Section};
 pub use fault::{ConfigError, ConfigFault};
 pub use groups::Groups;
 pub use limits::ENTRY_LIMIT;
+pub use lines::line_statement;
 pub use np_entry_read::ConfigWhy;
 pub use reading::read_config;
+pub use statement::{NumberedEntry, Statement};

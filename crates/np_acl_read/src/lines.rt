@@ -392,10 +392,16 @@ fn said(
     }
 }
 
-/// What a line declares. Its words are gathered only where its first word doesn't begin another
-/// line.
+/// What a line declares after the lines that declare this: nothing where it is skipped or is a
+/// remark in the section of its list. Its words are gathered only where its first word doesn't begin
+/// another line.
+///
+/// `Faulty` is the line's first fault in the order of its words, as in [`read_config`]; `Memory` may
+/// come at any time.
+///
+/// [`read_config`]: crate::read_config
 #[tactic(auto, using(crate::proofs::SayingLaws::says_nothing, crate::proofs::SayingLaws::says_other, crate::proofs::SayingLaws::says_by_words))]
-fn says(
+pub fn line_statement(
     alloc: Global,
     declared: &Declared,
     line: &[u8],
@@ -423,7 +429,7 @@ pub fn read_line(
     ensures after { OnOk result (after_line line_says added declared.old number line.now ≡ Ok declared.new) }
     ensures fault { IfErr result (λ error. IsFaultOf (after_line line_says added declared.old number line.now) error) }
 {
-    match says(alloc, declared, line) {
+    match line_statement(alloc, declared, line) {
         Ok(Some(statement)) => declared.add(alloc, statement)?,
         Ok(None) => {}
         Err(LineError::Faulty(why)) => {

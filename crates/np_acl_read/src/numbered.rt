@@ -1,6 +1,6 @@
 //! Access lists while they are read: entries in the order of their sequence numbers.
 
-ghost use Rattle.std.specs.Prelude.{◌≡◌, [], nat_eq, max, unwrap_or, fold, map, IfOk, OnOk};
+ghost use Rattle.std.specs.Prelude.{◌≡◌, [], nat_eq, length, max, unwrap_or, fold, map, IfOk, OnOk};
 ghost use Rattle.std.specs.List.{list_any};
 ghost use Rattle.std.specs.Map.{lookup};
 ghost use Rattle.std.specs.Option.{option_copied};
@@ -48,6 +48,13 @@ impl NumberedEntries {
         ensures { result ≡ list_any (nat_eq number) (map (λ entry. entry.0) self.now) }
     {
         self.entries.contains_key(&number)
+    }
+
+    /// How many entries there are.
+    pub fn count(&self) -> usize
+        ensures { result ≡ length self.now }
+    {
+        self.entries.len()
     }
 
     /// The greatest number; 0 where there is no entry.

@@ -5,3 +5,4 @@ pub mod Foreign
 pub mod LineNotes
 pub mod NameNotes
 pub mod Notes
+pub mod Shaping

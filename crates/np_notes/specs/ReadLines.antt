@@ -14,7 +14,7 @@ use Rattle.np_acl_read.specs.Declaring.{declared_by_config}
 use Rattle.np_acl_read.specs.Judging.{line_says}
 use Rattle.np_notes.specs.declared.kinds.Kind.{Kind}
 use Rattle.np_notes.specs.Kinds.{kind_of}
-use Rattle.np_notes.specs.Shape.{is_indented, word_at}
+use Rattle.np_notes.specs.Shape.{are_heading, is_exit, is_indented, word_at}
 
 -- a line, the section that is open at it, and what it declares
 pub record ReadLine : Type 0 where
@@ -46,17 +46,34 @@ read_lines text = lines_from (declared_by_config []) (numbered_lines text)
 abbrev pub statements_of : List ReadLine → List Statement
 statements_of lines = filter_map (λ line. line.said) lines
 
--- ---- one line
+-- ---- what notes look at
+
+-- a line's number and kind, whether it is indented, its first three words, whether it is the one word `exit`, and whether its words are those that begin a list of another kind
+pub record Shape : Type 0 where
+  pub number : ℕ
+  pub kind : Kind
+  pub indented : Bool
+  pub first : List ℕ
+  pub second : List ℕ
+  pub third : List ℕ
+  pub exit : Bool
+  pub heading : Bool
 
 abbrev pub line_kind : ReadLine → Kind
 line_kind line = kind_of line.bytes line.said
 
-abbrev pub line_is_indented : ReadLine → Bool
-line_is_indented line = is_indented line.bytes
-
 abbrev pub line_words : ReadLine → List (List ℕ)
 line_words line = words_of line.bytes
 
--- the word of the line at this place, from 0 on
-abbrev pub line_word : ReadLine → ℕ → List ℕ
-line_word line n = word_at (line_words line) n
+-- what a line looks like
+abbrev pub shape_of : ReadLine → Shape
+shape_of line = record {
+  number = line.number;
+  kind = line_kind line;
+  indented = is_indented line.bytes;
+  first = word_at (line_words line) 0;
+  second = word_at (line_words line) 1;
+  third = word_at (line_words line) 2;
+  exit = is_exit (line_words line);
+  heading = are_heading (line_words line);
+}

@@ -53,6 +53,10 @@ names_other_list first second third =
     || are_two first second (codes "ip") (codes "community-list")
     || are_two first second (codes "ip") (codes "extcommunity-list")
 
+-- these words begin a list of another kind: they name one, and none of them is the action of an entry, as where such a list has its entry on one line
+abbrev pub are_heading : List (List ℕ) → Bool
+are_heading words = names_other_list (word_at words 0) (word_at words 1) (word_at words 2) && not (list_any is_action words)
+
 -- the first words of a line that changes what lists or interfaces say: `ip access-list resequence`, `default interface`
 abbrev pub changes_others : List ℕ → List ℕ → List ℕ → Bool
 changes_others first second third =

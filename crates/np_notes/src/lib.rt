@@ -1,9 +1,12 @@
 //! What the reading of a configuration passed over and may matter.
 #![tactic(auto)]
 
-mod kinds;
-mod note;
+mod context;
 mod group_line;
+mod kinds;
+mod line_notes;
+mod line_shape;
+mod note;
 mod shape;
 
 pub use note::Note;

@@ -136,9 +136,12 @@ fn names_other_list(words: &FirstWords<'_>) -> bool
         || are_two(words, b"ip", b"extcommunity-list")
 }
 
-/// Whether a line's words begin a list of another kind, as far as its words say.
+/// Whether the words of a line, of which these are the first, begin a list of another kind.
 pub fn is_heading(line: &[u8], words: &FirstWords<'_>) -> bool
-    ensures { result ≡ (shape.names_other_list words.now.first.now words.now.second.now words.now.third.now && not (list_any shape.is_action (words_of line.now))) }
+    requires first { words.now.first.now ≡ word_at (words_of line.now) 0 }
+    requires second { words.now.second.now ≡ word_at (words_of line.now) 1 }
+    requires third { words.now.third.now ≡ word_at (words_of line.now) 2 }
+    ensures { result ≡ shape.are_heading (words_of line.now) }
 {
     names_other_list(words) && !has_action(line)
 }

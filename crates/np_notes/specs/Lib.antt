@@ -6,3 +6,5 @@ pub mod LineNotes
 pub mod NameNotes
 pub mod Notes
 pub mod Shaping
+pub mod Naming
+pub mod Walked

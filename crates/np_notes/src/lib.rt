@@ -6,7 +6,9 @@ mod group_line;
 mod kinds;
 mod line_notes;
 mod line_shape;
+mod names;
 mod note;
 mod shape;
+mod walk;
 
 pub use note::Note;

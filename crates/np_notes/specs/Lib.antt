@@ -1,0 +1,10 @@
+pub mod Shape
+pub mod Kinds
+pub mod ReadLines
+pub mod Foreign
+pub mod LineNotes
+pub mod NameNotes
+pub mod Notes
+pub mod Shaping
+pub mod Naming
+pub mod Walked

@@ -1,0 +1,45 @@
+//! The kinds of a configuration's lines.
+
+ghost use Rattle.std.specs.Prelude.{◌≡◌};
+ghost use Rattle.np_notes.specs.Kinds.{kind_of};
+
+use np_acl_read::Statement;
+use np_lines::first_word;
+
+/// The kind of a line that is accepted.
+#[derive(Clone, Copy, Debug, PartialEq, Eq)]
+pub enum Kind {
+    /// Without words, or a comment.
+    Skipped,
+    /// `interface NAME ..`
+    Interface,
+    /// `access-list N ..`
+    NumberedList,
+    /// `ip access-list extended NAME` or `ip access-list standard NAME`.
+    ListSection,
+    /// `ip access-group ..`
+    Group,
+    /// An entry or a remark in the section of its list.
+    ListLine,
+    /// Any other line, which declares nothing.
+    Other,
+}
+
+/// The kind of a line that declares this.
+pub fn kind_of_line(line: &[u8], said: &Option<Statement>) -> Kind
+    ensures { result ≡ kind_of line.now said.now }
+{
+    match said {
+        None => match first_word(line, b'!') {
+            Some(_) => Kind::ListLine,
+            None => Kind::Skipped,
+        },
+        Some(Statement::Interface(_)) => Kind::Interface,
+        Some(Statement::Section { .. }) => Kind::ListSection,
+        Some(Statement::Remark(_)) => Kind::NumberedList,
+        Some(Statement::ListEntry(_)) => Kind::NumberedList,
+        Some(Statement::SectionEntry(_)) => Kind::ListLine,
+        Some(Statement::Group { .. }) => Kind::Group,
+        Some(Statement::Other) => Kind::Other,
+    }
+}

@@ -3,7 +3,7 @@ use Rattle.std.specs.Fmt.{decimal}
 use Rattle.np_space.specs.declared.headers.Header.{Header}
 use Rattle.np_cut.specs.AppliedLists.{AppliedLists}
 use Rattle.np_net.specs.Plan.{Plan}
-use Rattle.np_net_read.specs.CanonicalText.{lines_text}
+use Rattle.np_net_text.specs.CanonicalText.{lines_text}
 use Rattle.np_report.specs.Atoms.{atom_lines}
 use Rattle.np_report.proofs.AtomLaws.{report_made}
 use Rattle.np_report.proofs.atoms.report.Goals as goal

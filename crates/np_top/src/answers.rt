@@ -11,6 +11,7 @@ ghost use Rattle.np_atomizer.specs.Atoms.{AreAtoms, atoms_in, sets_in};
 ghost use Rattle.np_cut.specs.Applying.{slot_lets};
 ghost use Rattle.np_cut.specs.FilterCuts.{filter_tests};
 ghost use Rattle.np_ipgoals.specs.Cuts.{ipsec_tests};
+ghost use Rattle.np_ipgoals.specs.Findings.{AreFindings};
 ghost use Rattle.np_goals.specs.Cases.{goal_at};
 ghost use Rattle.np_goals.specs.Verdicts.{IsVerdict};
 ghost use Rattle.np_goals.specs.declared.verdicts.Verdict.TheVariants as verdict;
@@ -41,7 +42,7 @@ use np_auth::check_auth;
 use np_conf::check_conf;
 use np_cut::{Applied, apply, filter_cuts};
 use np_goals::{Verdict, case_of, judge};
-use np_ipgoals::ipsec_cuts;
+use np_ipgoals::{Findings, findings, ipsec_cuts};
 use np_ipsec_report::IpAnswer;
 use np_load::{Halt, Inputs, Play, load_inputs, load_net, load_play};
 use np_net::{IpGoal, Network};
@@ -200,14 +201,21 @@ fn trace(alloc: Global, play: Play) -> Result<Answer, AllocError>
 }
 
 /// The answer on an IPsec goal.
-fn ip_answer(net: &Network, leasts: &[Header], k: usize) -> IpAnswer
+fn ip_answer(net: &Network, leasts: &[Header], found: &Findings, k: usize) -> IpAnswer
     requires goal { k < length net.now.ipgoals }
     requires leasts { AreLeasts (ipsec_tests net.now) leasts.now }
+    requires found { AreFindings net.now leasts.now found.now }
     ensures right { (goal : Aim) → slice_get net.now.ipgoals k ≡ Some goal → IsRightAnswer net.now goal result }
 {
     match &net.ipgoals.as_slice()[k] {
-        IpGoal::Auth { .. } => IpAnswer::Auth(check_auth(net, leasts, k)),
-        IpGoal::Conf { .. } => IpAnswer::Conf(check_conf(net, leasts, k)),
+        IpGoal::Auth { .. } => match &found.passages {
+            Some(passages) => IpAnswer::Auth(check_auth(net, leasts, passages, k)),
+            None => unreachable!(),
+        },
+        IpGoal::Conf { .. } => match &found.outlets {
+            Some(outlets) => IpAnswer::Conf(check_conf(net, leasts, outlets, k)),
+            None => unreachable!(),
+        },
     }
 }
 
@@ -220,9 +228,10 @@ fn ip_answers(
     requires { AreLeasts (ipsec_tests net.now) leasts.now }
     ensures { IfOk result (λ answers. AreRightAnswers net.now net.now.ipgoals answers) }
 {
+    let found = findings(alloc, net, leasts)?;
     let mut answers = Items::new(alloc);
     for k in 0..net.ipgoals.len() {
-        answers.push(ip_answer(net, leasts, k))?;
+        answers.push(ip_answer(net, leasts, &found, k))?;
     }
     Ok(answers)
 }

@@ -10,7 +10,7 @@ use Rattle.np_atomset.specs.AtomSet.{has_member}
 use Rattle.np_net.specs.Plan.{Plan}
 use Rattle.np_net.specs.declared.associations.InAction.{InAction}
 use Rattle.np_net.specs.declared.associations.InAction.TheVariants as ins
-use Rattle.np_ipsec.specs.Alike.{AreLeastsFor, AreTakenAlike, KeepsAlike}
+use Rattle.np_ipsec.specs.Alike.{AreLeastsFor, KeepsAlike}
 use Rattle.np_ipsec.specs.Searching.{Finds, FindsListed}
 use Rattle.np_ipsec.specs.Steps.{area_at, area_has}
 use Rattle.np_ipsec.specs.Tables.{in_action_of}
@@ -18,7 +18,7 @@ use Rattle.np_ipsec.specs.declared.tables.Top.TheVariants as tops
 use Rattle.np_ipsec.proofs.AlikeLaws.{in_alike}
 use Rattle.np_ipsec.proofs.LeastLaws.{alike_at, found_least}
 use Rattle.np_auth.specs.Answers.{HoldsA2, IsFirstForged}
-use Rattle.np_auth.specs.Passages.{ArePassages, ArePassing, ComesBefore, HasPassage, IsDoubtful, IsPassage, StandsBefore, is_bypass, passage_at}
+use Rattle.np_auth.specs.Passages.{ArePassages, ArePassing, HasPassage, IsDoubtful, StandsBefore, is_bypass, passage_at}
 use Rattle.np_auth.specs.Rules.{HasSourceToo, LetsForged}
 use Rattle.np_auth.specs.Searches.{FindsPassage, IsFirstPassage, IsMeantIn, IsSentAt, NonePasses}
 use Rattle.np_auth.specs.declared.marking.Passage.{Passage}

@@ -1,5 +1,5 @@
 -- What a check of an authentication goal answers: that the local rules hold, or the first one that doesn't, with the first place and the least header that show it.
-use Rattle.std.specs.Prelude.{◌≡◌, ◌⊎◌, ℕ, ◌<◌, false, length, Option, Some, None, slice_index_or}
+use Rattle.std.specs.Prelude.{◌≡◌, ◌⊎◌, ℕ, ◌<◌, false, length, Option, slice_index_or}
 use Rattle.np_space.specs.Header.{IsLeastOf}
 use Rattle.np_space.specs.declared.headers.Header.{Header}
 use Rattle.np_pred.specs.declared.predicate.Pred.{Pred}

@@ -202,8 +202,11 @@ fn answer(
 }
 
 /// Whether the local rules of an authentication goal hold; if not, the first one that doesn't, with the first place and the
-/// least header that show it. `leasts` has the least header of each class of those that no inward rule, no goal and no area
-/// tells apart, so each is asked once.
+/// least header that show it. Where they hold, no trajectory of any depth breaks the goal.
+///
+/// `goal` is the number, from 0, of an authentication goal of the network. `leasts` has the least header of each class of those
+/// that no rule, no goal and no area tells apart, and `passages` are the network's, of these headers: so no rule is asked again.
+/// Takes no memory.
 pub fn check_auth(net: &Network, leasts: &[Header], passages: &Passages, goal: usize) -> Answer
     requires within { goal < length net.now.ipgoals }
     requires auth { IsAuth net.now goal }

@@ -1,5 +1,6 @@
 //! The local rules of authentication goals: what the tables of a network have to say at each interface, so that no packet can
-//! be forged on its way. Where they hold, no trajectory breaks the goal. No call takes memory.
+//! be forged on its way. Where they hold, no trajectory breaks the goal. What the inward rules say of the least headers is found
+//! once for all goals (`passages`), which takes memory; a check asks that and no rule, and takes none.
 #![tactic(auto)]
 
 mod answers;

@@ -1,5 +1,5 @@
 -- How what the interfaces of a network do to bare packets is noted, one interface and one header after another.
-use Rattle.std.proofs.Common.{◌≡◌, ◌≢◌, ◌∙◌, ◌⊎◌, ℕ, ◌+◌, ◌<◌, ◌≤◌, Bool, true, false, List, [], ◌∷◌, ◌++◌, length, get_or, replicate, set, Option, Some, None, IfSome, refl, sym, ap, subst, inl, inr, arith}
+use Rattle.std.proofs.Common.{◌≡◌, ◌≢◌, ◌∙◌, ℕ, ◌+◌, ◌<◌, Bool, true, false, List, [], ◌∷◌, ◌++◌, length, get_or, replicate, set, Option, Some, None, IfSome, refl, sym, ap, subst, inl, inr, arith}
 use Rattle.std.proofs.lemmas.Bool.{cases_eq, cases_lt}
 use Rattle.std.proofs.lemmas.List.{get_or-replicate, get_or-set_other, get_or-set_same, get_or_append_left, get_or_past, length-append, length-replicate, length-set}
 use Rattle.std.proofs.Math.Seq.{get_or-append_seam}
@@ -10,7 +10,7 @@ use Rattle.np_net.specs.Plan.{Plan}
 use Rattle.np_net.specs.declared.associations.OutAction.TheVariants as outs
 use Rattle.np_ipsec.specs.Tables.{out_action_of}
 use Rattle.np_ipsec.specs.declared.tables.Top.TheVariants as tops
-use Rattle.np_conf.specs.Outlets.{AreAround, AreAroundTo, AreOutlets, AreWays, AreWaysTo, HasOutlet, HaveSizes, IsAround, IsOutlet, PutsAt, PutsBefore, members_of, outlet_at, set_or, with_member}
+use Rattle.np_conf.specs.Outlets.{AreAroundTo, AreOutlets, AreWaysTo, IsAround, IsOutlet, PutsAt, members_of, outlet_at, set_or, with_member}
 use Rattle.np_conf.specs.Rules.{IsTrustedInterface, IsWayOut}
 use Rattle.np_conf.specs.declared.leaving.Outlet.{Outlet}
 use Rattle.np_conf.specs.declared.leaving.Outlets.{Outlets}

@@ -18,7 +18,7 @@ use Rattle.np_ipsec.specs.declared.tables.Top.TheVariants as tops
 use Rattle.np_ipsec.proofs.AlikeLaws.{out_alike}
 use Rattle.np_ipsec.proofs.LeastLaws.{alike_at, found_least}
 use Rattle.np_conf.specs.Answers.{LetsSomeBare}
-use Rattle.np_conf.specs.Outlets.{AreBare, AreWays, HasOutlet, IsOutlet, is_bypass, outlet_at, passes_bare}
+use Rattle.np_conf.specs.Outlets.{AreBare, AreWays, HasOutlet, is_bypass, outlet_at}
 use Rattle.np_conf.specs.Rules.{IsOwn, IsWayOut, LetsOutBare}
 use Rattle.np_conf.specs.Sets.{FindsOutlet, IsFirstOutlet, IsOwnIn, NoneGoesOut, is_own}
 use Rattle.np_conf.specs.declared.leaving.Outlet.{Outlet}

@@ -1,5 +1,5 @@
 -- What the answer on a confidentiality goal says: that the local rules hold, or the first that doesn't and where.
-use Rattle.std.specs.Prelude.{◌≡◌, ℕ, ◌<◌, true, false, slice_index_or}
+use Rattle.std.specs.Prelude.{◌≡◌, ℕ, true, false, slice_index_or}
 use Rattle.np_space.specs.Header.{IsLeastOf}
 use Rattle.np_space.specs.declared.headers.Header.{Header}
 use Rattle.np_pred.specs.declared.predicate.Pred.{Pred}

@@ -183,8 +183,9 @@ fn check(net: &Network, leasts: &[Header], outlets: &Outlets, from: AreaId, pred
 /// Whether the local rules of a confidentiality goal hold, and else the first that doesn't, with its first place. Where they hold,
 /// no trajectory of any depth breaks the goal.
 ///
-/// The rules ask of headers only what the network's outward rules, goals and areas tell apart, so the least headers of the classes
-/// of such tests answer for all. Takes no memory.
+/// `goal` is the number, from 0, of a confidentiality goal of the network. `leasts` has the least header of each class of those
+/// that no rule, no goal and no area tells apart, and `outlets` are the network's, of these headers: so no rule is asked about a
+/// bare packet again. Takes no memory.
 #[tactic(auto, using(crate::proofs::AnswerLaws::yes_exactly))]
 pub fn check_conf(net: &Network, leasts: &[Header], outlets: &Outlets, goal: usize) -> Answer
     requires goal { goal < length net.now.ipgoals }

@@ -3,7 +3,8 @@
 //!
 //! A goal's answer comes from the tables alone, each interface by itself; that it holds for whole trajectories, of any length and
 //! depth, is a law. The rules are local in the sense of Guttman and Herzog (Rigorous automated network security management, 2005).
-//! No call takes memory.
+//! What the outward rules say of bare packets with the least headers is found once for all goals (`outlets`), which takes memory; a
+//! check takes none.
 #![tactic(auto)]
 
 mod answers;

@@ -1,7 +1,5 @@
 use Rattle.std.proofs.Common.{◌≡◌, ◌∙◌, get_or, ap, sym, subst}
 use Rattle.std.proofs.lemmas.List.{get_or_default}
-use Rattle.std.proofs.lemmas.List.Elements.{Contains-get_or}
-use Rattle.std.specs.List.{Contains}
 use Rattle.np_pred.specs.declared.predicate.Pred.TheVariants as predicates
 use Rattle.np_net.specs.declared.associations.IpGoal.TheVariants as goals
 use Rattle.np_conf.specs.Answers.{IsAnswerTo, ipgoal_at}

@@ -1,12 +1,12 @@
 -- What is read of the classes, the order of the atoms, and the numbers of their regions.
-use Rattle.std.proofs.Common.{◌≡◌, ℕ, suc, zero, ◌<◌, ◌≤◌, Bool, true, false, List, [], ◌∷◌, ◌++◌, length, get_or, map, refl, sym, ◌∙◌, ap, subst, inl, inr, arith, append_assoc, eq-eqb}
+use Rattle.std.proofs.Common.{◌≡◌, ℕ, suc, zero, ◌<◌, ◌≤◌, Bool, true, false, List, [], ◌∷◌, ◌++◌, length, get_or, refl, sym, ◌∙◌, ap, subst, inl, inr, arith, append_assoc, eq-eqb}
 use Rattle.std.specs.Prelude.{◌==◌, ◌&&◌, IsTrue, sum_by}
 use Rattle.std.specs.List.{All, AllPairs, Any, position_or_len}
 use Rattle.std.specs.List.Sorted.{IsPermutation, IsSortedBy, IsStrictlySortedBy}
 use Rattle.std.specs.Ordering.{is_lt}
 use Rattle.std.specs.declared.cmp.Ordering.TheVariants.{Less}
 use Rattle.std.proofs.Math.ListN.{get_or-map}
-use Rattle.std.proofs.lemmas.Bool.{true≢false, cases_lt, eqb-true}
+use Rattle.std.proofs.lemmas.Bool.{true≢false, cases_lt, eqb-true, and_parts}
 use Rattle.std.proofs.lemmas.List.{map-append, length-map, get_or-map as get_or_inside}
 use Rattle.std.proofs.lemmas.List.Elements.{All-nil, All-head, All-tail, All-push, All-map, All-weaker, recursion_from_All}
 use Rattle.std.proofs.lemmas.List.Sorted.{All-permutation, IsPermutation-map, sum_by-IsPermutation, sorted_far, ranks_by}
@@ -23,7 +23,7 @@ use Rattle.np_atoms.specs.Atoms.{cut_sets, AreAtoms}
 use Rattle.np_atomizer.specs.Splitting.{DivideValid, number_in, count_having, HasSome, IsClass, AreClasses, IsRead, AreInOrder}
 use Rattle.np_atomizer.specs.AtomList.{regions_of, leasts_of, is_before}
 use Rattle.np_atomizer.specs.declared.atom_list.Atom.{Atom}
-use Rattle.np_atomizer.proofs.SplitLaws.{both_true, count_cons}
+use Rattle.np_atomizer.proofs.SplitLaws.{count_cons}
 
 -- ---- numbers
 
@@ -47,7 +47,7 @@ passing_counted p (x ∷ xs) (suc n) d l e =
     omega arith
 
 -- where one alone passes, it stands at one place
-one_place : {X : Type 0} (p : X → Bool) (xs : List X) (i j : ℕ) (d : X) → sum_by (λ x. flag_number (p x)) xs ≤ 1 → i < length xs → j < length xs → p (get_or xs i d) ≡ true → p (get_or xs j d) ≡ true → i ≡ j
+pub one_place : {X : Type 0} (p : X → Bool) (xs : List X) (i j : ℕ) (d : X) → sum_by (λ x. flag_number (p x)) xs ≤ 1 → i < length xs → j < length xs → p (get_or xs i d) ≡ true → p (get_or xs j d) ≡ true → i ≡ j
 one_place p [] i j d once l m e f = absurd (omega arith)
 one_place p (x ∷ xs) zero zero d once l m e f = refl
 one_place p (x ∷ xs) zero (suc j) d once l m e f =
@@ -82,7 +82,7 @@ numbered_region {R} fits has valid regions n d h divide l = same_answers (has (g
 
     from : (is_valid_header h && (number == n)) ≡ true → has (get_or regions n d) h ≡ true
     from e =
-        let same : number ≡ n = eqb-true number n (both_true (is_valid_header h) (number == n) e).1 in
+        let same : number ≡ n = eqb-true number n (and_parts (is_valid_header h) (number == n) e).1 in
         ap (λ k. has (get_or regions k d) h) (sym same) ∙ passes_at_first (λ r. has r h) regions d (subst (λ k. k < length regions) (sym same) l)
 
 module _ {S R : Type 0} (fits : S → R → Type 0) (has : S → R → Header → Bool) where
@@ -134,13 +134,13 @@ module _ {S R : Type 0} (fits : S → R → Type 0) (has : S → R → Header �
       append-nil (x ∷ xs) = ap (λ l. x ∷ l) (append-nil xs)
   read_all s regions (r ∷ left) atoms none so_far = absurd (omega arith)
 
-  -- ---- the sets of the cuts
+  -- ---- the tests of the cuts
 
-  -- they are those that the cuts had in the store before
-  pub sets_same : (old s : S) (cuts : List R) (leasts : List Header) → KeepsRegions fits has old s → EachFits fits old cuts → cut_sets (tests_of has s cuts) leasts ≡ cut_sets (tests_of has old cuts) leasts
-  sets_same old s [] leasts k each = refl
-  sets_same old s (cut ∷ cuts) leasts k each =
-      λ i. map (λ h. k.same cut (All-head (fits old) cut cuts each) h i) leasts ∷ sets_same old s cuts leasts k (All-tail (fits old) cut cuts each) i
+  -- they are those that the cuts were in the store before
+  pub tests_same : (old s : S) (cuts : List R) → KeepsRegions fits has old s → EachFits fits old cuts → tests_of has s cuts ≡ tests_of has old cuts
+  tests_same old s [] k each = refl
+  tests_same old s (cut ∷ cuts) k each =
+      λ i. (λ h. k.same cut (All-head (fits old) cut cuts each) h i) ∷ tests_same old s cuts k (All-tail (fits old) cut cuts each) i
 
   -- ---- how many atoms have a header
 
@@ -312,7 +312,7 @@ module _ {S R : Type 0} (fits : S → R → Type 0) (has : S → R → Header �
   atoms_with_sets old s cuts atoms leasts sets fc k are read said =
       record {
         leasts = subst (AreLeasts (tests_of has old cuts)) (sym read) are.leasts;
-        sets = said ∙ sets_same old s cuts leasts k fc;
+        sets = said ∙ ap (λ tests. cut_sets tests leasts) (tests_same old s cuts k fc);
       }
 
   -- ---- the region that has a header

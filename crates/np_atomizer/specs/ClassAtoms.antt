@@ -9,7 +9,12 @@ use Rattle.np_atomset.specs.AtomSet.{has_member}
 use Rattle.np_partition.specs.Diagram.{IsDiagram}
 use Rattle.np_partition.specs.Partition.{class_of, IsPartition}
 use Rattle.np_partition.specs.declared.partition.Partition.{Partition}
+use Rattle.np_atoms.specs.Atoms.{AreAtoms}
+use Rattle.np_atomizer.specs.Numbers.{AreNumbers}
+use Rattle.np_atomizer.specs.Splitting.{AreInOrder}
 use Rattle.np_atomizer.specs.declared.atom_list.Atom.{Atom}
+use Rattle.np_atomizer.specs.declared.atomizer.Atomized.{Atomized}
+use Rattle.np_atomizer.specs.declared.diagrams.PartitionClasses.{PartitionClasses}
 
 -- ---- partitions that tell valid headers
 
@@ -52,3 +57,41 @@ StandsOnce classes = (i j : ℕ) → i < length classes → j < length classes �
 -- each of the first n classes of the list has the number of its place
 abbrev pub AreNumbered : List ℕ → ℕ → List ℕ → Type 0
 AreNumbered classes n numbers = (i : ℕ) → i < n → slice_index_or numbers (slice_index_or classes i 0) 0 ≡ i
+
+-- ---- the atoms of the tests
+
+-- it is one of the partition's classes
+abbrev pub IsClassOf : Partition → ℕ → Type 0
+IsClassOf p n = n < p.classes
+
+-- the class is one of valid headers, and the least member is in it
+pub record IsClassAtom (p : Partition) (a : Atom ℕ) : Type 0 where
+  pub within : a.region < p.classes
+  pub valid : has_member (valid_classes p) a.region ≡ true
+  pub widths : HasWidths a.least
+  pub own : class_of p a.least ≡ a.region
+
+-- the atoms of the tests in the order of their least members, each of which is a class
+pub record AreClassAtoms (p : Partition) (tests : List (Header → Bool)) (atoms : List (Atom ℕ)) : Type 0 where
+  pub ordered : AreInOrder IsClassOf class_has p tests atoms
+  pub each : All (IsClassAtom p) atoms
+
+-- ---- what keeps the atoms
+
+-- the number of the atom that the header is in
+abbrev pub number_of_class : PartitionClasses → Header → ℕ
+number_of_class c h = slice_index_or c.numbers.items (class_of c.partition h) 0
+
+-- each header is led to a class, and the classes of the atoms are those of valid headers, with the atoms' numbers
+pub record KeepsAtoms (c : PartitionClasses) : Type 0 where
+  pub diagram : IsDiagram c.partition.shows
+  pub there : c.partition.root < length c.partition.shows
+  pub within : (h : Header) → HasWidths h → class_of c.partition h < length c.numbers.items
+  pub exact : (h : Header) (n : ℕ) → HasWidths h → n < length c.classes.items → (class_of c.partition h ≡ slice_index_or c.classes.items n 0) ↔ (IsValid h × (number_of_class c h ≡ n))
+
+-- all that is read of a partition by validity and the tests: the atoms, and what keeps them
+pub record AreRead (tests : List (Header → Bool)) (r : Atomized PartitionClasses) : Type 0 where
+  pub atoms : AreAtoms tests r.atoms
+  pub classes : KeepsAtoms r.classes
+  pub count : length r.classes.classes.items ≡ length r.atoms.leasts
+  pub numbers : AreNumbers tests r.atoms.leasts (number_of_class r.classes)

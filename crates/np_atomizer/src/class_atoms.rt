@@ -1,6 +1,6 @@
 //! The atoms among the classes of a partition, and their numbers.
 
-ghost use Rattle.std.specs.Prelude.{◌≡◌, ◌<◌, ◌+◌, ℕ, IfOk, OnOk, length};
+ghost use Rattle.std.specs.Prelude.{◌≡◌, ◌<◌, ◌+◌, ℕ, IfOk, OnOk, length, slice_index_or};
 ghost use Rattle.std.specs.List.{All};
 ghost use Rattle.np_atomizer.specs.ClassAtoms.{AreListed, StandsOnce, AreNumbered};
 
@@ -73,4 +73,12 @@ pub(crate) fn places(
     let mut numbers = vec![in alloc; 0; count]?;
     number(numbers.as_mut_slice(), classes);
     Ok(numbers)
+}
+
+// The number of the class.
+pub(crate) fn number_at(numbers: &[usize], class: usize) -> usize
+    requires { class < length numbers.now }
+    ensures { result ≡ slice_index_or numbers.now class 0 }
+{
+    numbers[class]
 }

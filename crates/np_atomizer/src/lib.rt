@@ -6,6 +6,8 @@ mod atom_list;
 mod atomizer;
 mod block_lists;
 mod class_atoms;
+mod diagrams;
 mod splitting;
 
 pub use atomizer::{Atomized, Atomizer};
+pub use diagrams::PartitionClasses;

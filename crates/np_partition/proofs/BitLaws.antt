@@ -6,7 +6,7 @@ use Rattle.np_bdd.proofs.CanonicalLaws.{AgreeFrom, changed, unchanged}
 use Rattle.np_partition.specs.declared.shows.Show.{Show}
 use Rattle.np_partition.specs.declared.shows.Show.TheVariants.{Class, Test}
 use Rattle.np_partition.specs.Diagram.{class_at, show_at, bit_of, bit_at, IsDiagram}
-use Rattle.np_partition.specs.Places.{StartsAt, Chooses, IsSplit}
+use Rattle.np_partition.specs.Places.{StartsAt, IsSplit}
 use Rattle.np_partition.proofs.DiagramLaws.{class_at_class, class_chosen, ordered_test}
 
 -- ---- which bits are read

@@ -1,8 +1,7 @@
 -- How the class of bits reads: at a class, at a test, and among more places.
-use Rattle.std.proofs.Common.{◌≡◌, ℕ, suc, ◌+◌, ◌<◌, ◌≤◌, Bool, true, false, List, [], ◌∷◌, ◌++◌, length, take, drop, refl, sym, ◌∙◌, ap, subst, arith, if◌then◌else◌, ◌⊎◌, inl, inr}
+use Rattle.std.proofs.Common.{◌≡◌, ℕ, suc, ◌+◌, ◌<◌, ◌≤◌, Bool, true, false, List, [], ◌∷◌, ◌++◌, length, take, drop, refl, sym, ◌∙◌, ap, subst, arith, if◌then◌else◌}
 use Rattle.std.specs.Prelude.{fold, slice_index_or}
 use Rattle.std.proofs.Math.Seq.{get_or-append_seam, drop-cons}
-use Rattle.std.proofs.lemmas.Bool.{cases_lt}
 use Rattle.std.proofs.lemmas.List.{get_or_append_left, length-append, length-take-le, take-append-drop}
 use Rattle.std.proofs.lemmas.List.Sums.{fold-append}
 use Rattle.np_bdd.specs.Views.{Bits}
@@ -28,7 +27,7 @@ earlier_kept bits before (show ∷ shows) at there =
     ∙ get_or_append_left before (class_shown bits before show ∷ []) 0 at there
 
 -- there is a class for each place
-pub length_classes : (bits : Bits) (shows : List Show) → length (classes_from bits shows) ≡ length shows
+length_classes : (bits : Bits) (shows : List Show) → length (classes_from bits shows) ≡ length shows
 unfolding classes_from
 length_classes bits shows = length_more bits [] shows ∙ omega arith
 
@@ -85,7 +84,7 @@ pub class_at_class : (bits : Bits) (shows : List Show) (at n : ℕ) → at < len
 class_at_class bits shows at n there e = class_of_show bits shows at there ∙ ap (λ show. class_shown bits (classes_from bits (take at shows)) show) e
 
 -- a test, whose branches stand before it
-pub class_at_test : (bits : Bits) (shows : List Show) (at bit low high : ℕ) → at < length shows → show_at shows at ≡ Test bit low high → low < at → high < at
+class_at_test : (bits : Bits) (shows : List Show) (at bit low high : ℕ) → at < length shows → show_at shows at ≡ Test bit low high → low < at → high < at
     → class_at bits shows at ≡ (if bits bit then class_at bits shows high else class_at bits shows low)
 class_at_test bits shows at bit low high there e low_before high_before =
     class_of_show bits shows at there
@@ -120,7 +119,7 @@ bit_small shows d at there = small_bit shows at (show_at shows at) (d at there)
 -- ---- one place more
 
 -- what an earlier place shows
-pub show_kept : (shows more : List Show) (at : ℕ) → at < length shows → show_at (shows ++ more) at ≡ show_at shows at
+show_kept : (shows more : List Show) (at : ℕ) → at < length shows → show_at (shows ++ more) at ≡ show_at shows at
 show_kept shows more at there = get_or_append_left shows more (Class 0) at there
 
 pub show_last : (shows : List Show) (show : Show) → show_at (shows ++ show ∷ []) (length shows) ≡ show
@@ -128,28 +127,6 @@ show_last shows show = get_or-append_seam shows show [] (Class 0)
 
 pub bit_kept : (shows more : List Show) (at : ℕ) → at < length shows → bit_at (shows ++ more) at ≡ bit_at shows at
 bit_kept shows more at there = ap bit_of (show_kept shows more at there)
-
--- a place is as it should be among more places
-pub ordered_kept : (shows more : List Show) (at : ℕ) (show : Show) → at ≤ length shows → IsOrdered shows at show → IsOrdered (shows ++ more) at show
-ordered_kept shows more at (Class n) there o = tt
-ordered_kept shows more at (Test bit low high) there o = record {
-  bit_fits = o.bit_fits;
-  low_before = o.low_before;
-  high_before = o.high_before;
-  low_greater = rw (bit_kept shows more low (omega (arith, there, o.low_before))) o.low_greater;
-  high_greater = rw (bit_kept shows more high (omega (arith, there, o.high_before))) o.high_greater;
-}
-
--- a diagram with one place more that is as it should be
-pub diagram_more : (shows : List Show) (show : Show) → IsDiagram shows → IsOrdered shows (length shows) show → IsDiagram (shows ++ show ∷ [])
-diagram_more shows show d o at there = by (cases_lt at (length shows))
-  where
-    by : (at < length shows) ⊎ (length shows ≤ at) → IsOrdered (shows ++ show ∷ []) at (show_at (shows ++ show ∷ []) at)
-    by (inl early) = rw (show_kept shows (show ∷ []) at early) (ordered_kept shows (show ∷ []) at (show_at shows at) (omega (arith, early)) (d at early))
-    by (inr late) =
-        let last : length shows ≡ at = omega (arith, late, there, length-append shows (show ∷ [])) in
-        subst (λ n. IsOrdered (shows ++ show ∷ []) n (show_at (shows ++ show ∷ []) n)) last
-        (rw (show_last shows show) (ordered_kept shows (show ∷ []) (length shows) show (omega arith) o))
 
 -- the class at a new test
 pub class_new_test : (bits : Bits) (shows : List Show) (bit low high : ℕ)

@@ -1,12 +1,12 @@
 -- What the memo keeps: after one more pair of places, and after the diagram has grown.
-use Rattle.std.proofs.Common.{◌≡◌, ℕ, ◌<◌, Bool, true, false, List, length, Some, refl, sym, ◌∙◌, ap, ◌⊎◌, inl, inr}
-use Rattle.std.specs.Prelude.{◌==◌, ◌&&◌, cond, slice_get}
+use Rattle.std.proofs.Common.{◌≡◌, ℕ, Bool, true, false, List, Some, refl, sym, ◌∙◌, ap, ◌⊎◌, inl, inr}
+use Rattle.std.specs.Prelude.{◌==◌, cond}
 use Rattle.std.specs.HashMap.{get}
 use Rattle.std.proofs.lemmas.Bool.{eqb-true, and_parts}
 use Rattle.np_partition.specs.declared.shows.Show.{Show}
 use Rattle.np_partition.specs.declared.pairing.Pairing.{Pairing}
 use Rattle.np_partition.specs.declared.pair_memo.PairMemo.{PairMemo}
-use Rattle.np_partition.specs.Pairing.{classes_at, pair_of, same_pair, place_for, KeepsPairing, IsPaired, IsPairMemo, Learns}
+use Rattle.np_partition.specs.Pairing.{pair_of, same_pair, place_for, KeepsPairing, IsPaired, IsPairMemo, Learns}
 
 -- a pair that is put into the map is the only one that is new
 pub learned : (old new : PairMemo) (x y z : ℕ) → ((q : ℕ × ℕ) → get same_pair new.places q ≡ cond (same_pair (x, y) q) (Some z) (get same_pair old.places q)) → Learns old new x y z

@@ -2,20 +2,19 @@
 use Rattle.std.proofs.Common.{◌≡◌, ℕ, zero, suc, ◌+◌, ◌<◌, ◌≤◌, Bool, true, false, List, [], ◌∷◌, length, Some, refl, sym, ◌∙◌, ap, subst, arith, if◌then◌else◌, ◌⊎◌, inl, inr}
 use Rattle.std.specs.Prelude.{◌&&◌, slice_index_or}
 use Rattle.np_space.specs.Flag.{flag_number}
-use Rattle.np_space.specs.Header.{HasWidths, has_widths}
+use Rattle.np_space.specs.Header.{HasWidths}
 use Rattle.np_space.specs.declared.headers.Header.{Header}
 use Rattle.np_space.proofs.FlagLemmas.{flag_small}
 use Rattle.np_bdd.specs.declared.views.Node.{Node}
 use Rattle.np_bdd.specs.declared.views.View.{View}
 use Rattle.np_bdd.specs.declared.views.View.TheVariants.{No, Yes, Test}
-use Rattle.np_bdd.specs.Views.{Bits, bits_of_header, view_at, sent_by, is_yes, place_after, leads_to_yes, node_has}
-use Rattle.np_bdd.specs.Diagram.{bit_at_place, IsOrdered, IsOrderedTest}
-use Rattle.np_bdd.specs.Diagram.{bit_of as bit_of_view}
+use Rattle.np_bdd.specs.Views.{Bits, bits_of_header, view_at, sent_by, place_after, leads_to_yes, node_has}
+use Rattle.np_bdd.specs.Diagram.{IsOrdered, IsOrderedTest}
 use Rattle.np_bdd.proofs.HeaderOfBits.{widths_true}
 use Rattle.np_partition.specs.declared.shows.Show.{Show}
 use Rattle.np_partition.specs.declared.partition.Partition.{Partition}
 use Rattle.np_partition.specs.declared.node_memo.NodeMemo.{NodeMemo}
-use Rattle.np_partition.specs.Diagram.{class_at, bit_at, IsDiagram}
+use Rattle.np_partition.specs.Diagram.{class_at, IsDiagram}
 use Rattle.np_partition.specs.Partition.{class_of, row, IsPartition}
 use Rattle.np_partition.specs.Places.{KeepsPlaces, StartsAt, IsPlaceOfClass, Chooses}
 use Rattle.np_partition.specs.NodePlaces.{leads_within, IsPlaceOfNode, place_for_node, IsNodeMemo, LearnsNode}
@@ -66,10 +65,6 @@ place_of_yes views x shows at e p = record {
 -- what the store says of a test
 pub test_ordered : (views : List View) (v : View) (bit : ℕ) (low high : Node) → v ≡ Test bit low high → IsOrdered views v → IsOrderedTest views bit low high
 test_ordered views v bit low high e o = subst (IsOrdered views) e o
-
--- the place of a branch tests later bits alone
-pub branch_starts : (views : List View) (bit x : ℕ) (shows : List Show) (at : ℕ) → bit < bit_at_place views x → IsPlaceOfNode views x shows at → StartsAt shows (1 + bit) at
-branch_starts views bit x shows at later p = record { there = p.there; from = omega (arith, later, p.from) }
 
 -- the place that chooses between those of the branches is that of the test
 pub place_of_test : (views : List View) (x bit : ℕ) (low high : Node) (shows : List Show) (low_at high_at at : ℕ) → view_at views x ≡ Test bit low high → IsOrderedTest views bit low high

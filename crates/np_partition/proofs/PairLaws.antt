@@ -1,14 +1,13 @@
 -- The place for two places: what is kept while it is made, what it leads to, and which pairs of classes are new.
-use Rattle.std.proofs.Common.{◌≡◌, ℕ, ◌+◌, ◌<◌, ◌≤◌, Bool, true, false, List, length, Some, refl, sym, ◌∙◌, ap, arith, if◌then◌else◌, ◌⊎◌, inl, inr}
-use Rattle.std.specs.Prelude.{slice_get, min}
+use Rattle.std.proofs.Common.{◌≡◌, ℕ, ◌<◌, ◌≤◌, Bool, true, false, List, length, Some, sym, ◌∙◌, ap, arith, if◌then◌else◌, ◌⊎◌, inl, inr}
 use Rattle.np_bdd.specs.Views.{Bits}
 use Rattle.np_bdd.specs.Walking.{with_bit}
 use Rattle.np_partition.specs.declared.shows.Show.{Show}
 use Rattle.np_partition.specs.declared.pairing.Pairing.{Pairing}
 use Rattle.np_partition.specs.declared.product.Halves.{Halves}
 use Rattle.np_partition.specs.Diagram.{class_at, bit_at, IsDiagram}
-use Rattle.np_partition.specs.Places.{KeepsPlaces, StartsAt, Chooses, IsSplit}
-use Rattle.np_partition.specs.Pairing.{classes_at, AreReached, lesser_bit, AreHalves, pair_of, KeepsPairing, IsPlaceOfPair, IsPaired, AddsAtMost, AddsReached}
+use Rattle.np_partition.specs.Places.{KeepsPlaces, StartsAt, Chooses}
+use Rattle.np_partition.specs.Pairing.{classes_at, AreReached, AreHalves, pair_of, KeepsPairing, IsPlaceOfPair, IsPaired, AddsAtMost, AddsReached}
 use Rattle.np_partition.proofs.PlaceLaws.{keeps_places_chained}
 use Rattle.np_partition.proofs.BitLaws.{leads_by}
 use Rattle.np_partition.proofs.MemoLaws.{paired_stays}
@@ -54,7 +53,7 @@ branch_reached first second in_first in_second x y halves h b pair r = record {
   exact =
       (λ i. (
         leads_by first in_first halves.bit halves.x.low halves.x.high x h.in_first r.bits b i,
-        leads_by second in_second halves.bit halves.y.low halves.y.high y h.in_second r.bits b i
+        leads_by second in_second halves.bit halves.y.low halves.y.high y h.in_second r.bits b i,
       ))
       ∙ r.exact;
 }

@@ -1,17 +1,13 @@
 -- Places while a diagram is built: what is kept of the earlier ones, and what a new one says.
-use Rattle.std.proofs.Common.{◌≡◌, ℕ, ◌+◌, ◌<◌, ◌≤◌, Bool, true, false, List, [], ◌∷◌, ◌++◌, length, refl, sym, ◌∙◌, ap, subst, arith, if◌then◌else◌}
+use Rattle.std.proofs.Common.{◌≡◌, ℕ, ◌<◌, Bool, true, false, List, [], ◌∷◌, ◌++◌, length, sym, ◌∙◌, subst, arith, if◌then◌else◌}
 use Rattle.std.proofs.lemmas.List.{length-append}
-use Rattle.np_bdd.specs.Views.{Bits}
 use Rattle.np_partition.specs.declared.shows.Show.{Show}
 use Rattle.np_partition.specs.declared.shows.Show.TheVariants.{Class, Test}
-use Rattle.np_partition.specs.Diagram.{class_at, show_at, bit_of, bit_at, IsOrdered, IsDiagram}
+use Rattle.np_partition.specs.Diagram.{class_at, show_at, bit_of, IsDiagram}
 use Rattle.np_partition.specs.Places.{KeepsPlaces, StartsAt, IsPlaceOfClass, Chooses, IsSplit}
-use Rattle.np_partition.proofs.DiagramLaws.{class_kept, class_last, class_new_test, bit_kept, show_last, diagram_more, class_chosen, ordered_test}
+use Rattle.np_partition.proofs.DiagramLaws.{class_kept, class_last, class_new_test, bit_kept, show_last, class_chosen, ordered_test}
 
 -- ---- keeping
-
-pub keeps_places_itself : (shows : List Show) → KeepsPlaces shows shows
-keeps_places_itself shows = record { there = λ at h. h; bit = λ at h. refl; same = λ at h bits. refl }
 
 pub keeps_places_chained : (first next last : List Show) → KeepsPlaces first next → KeepsPlaces next last → KeepsPlaces first last
 keeps_places_chained first next last a b = record {
@@ -20,15 +16,12 @@ keeps_places_chained first next last a b = record {
   same = λ at h bits. b.same at (a.there at h) bits ∙ a.same at h bits;
 }
 
-pub keeps_places_before : (shows more : List Show) → KeepsPlaces shows (shows ++ more)
+keeps_places_before : (shows more : List Show) → KeepsPlaces shows (shows ++ more)
 keeps_places_before shows more = record {
   there = λ at h. omega (arith, h, length-append shows more);
   bit = λ at h. bit_kept shows more at h;
   same = λ at h bits. class_kept bits shows more at h;
 }
-
-pub starts_kept : (old new : List Show) (bit at : ℕ) → KeepsPlaces old new → StartsAt old bit at → StartsAt new bit at
-starts_kept old new bit at kept s = record { there = kept.there at s.there; from = rw (kept.bit at s.there) s.from }
 
 -- ---- one place more
 
@@ -37,13 +30,13 @@ pub record IsAdded (old new : List Show) (show : Show) (at : ℕ) : Type 0 where
   pub list : new ≡ old ++ show ∷ []
   pub place : at ≡ length old
 
-pub added_there : (old new : List Show) (show : Show) (at : ℕ) → IsAdded old new show at → at < length new
+added_there : (old new : List Show) (show : Show) (at : ℕ) → IsAdded old new show at → at < length new
 added_there old new show at a = rw (a.list, a.place) (omega (arith, length-append old (show ∷ [])))
 
 pub added_kept : (old new : List Show) (show : Show) (at : ℕ) → IsAdded old new show at → KeepsPlaces old new
 added_kept old new show at a = subst (λ shows. KeepsPlaces old shows) (sym a.list) (keeps_places_before old (show ∷ []))
 
-pub added_starts : (old new : List Show) (show : Show) (at : ℕ) → IsAdded old new show at → StartsAt new (bit_of show) at
+added_starts : (old new : List Show) (show : Show) (at : ℕ) → IsAdded old new show at → StartsAt new (bit_of show) at
 added_starts old new show at a = record { there = added_there old new show at a; from = rw (a.list, a.place, show_last old show) (omega arith) }
 
 -- a class
@@ -66,27 +59,6 @@ added_test old new bit low high at a low_there high_there bits =
     by true = sym (kept.same high high_there bits)
     by false = sym (kept.same low low_there bits)
 
-pub is_ordered_test : (shows : List Show) (bit low high : ℕ) → bit < 111 → StartsAt shows (1 + bit) low → StartsAt shows (1 + bit) high → IsOrdered shows (length shows) (Test bit low high)
-is_ordered_test shows bit low high fits l h = record {
-  bit_fits = fits;
-  low_before = l.there;
-  high_before = h.there;
-  low_greater = omega (arith, l.from);
-  high_greater = omega (arith, h.from);
-}
-
-pub added_diagram : (old new : List Show) (show : Show) (at : ℕ) → IsDiagram old → IsOrdered old (length old) show → IsAdded old new show at → IsDiagram new
-added_diagram old new show at d o a = subst (λ shows. IsDiagram shows) (sym a.list) (diagram_more old show d o)
-
--- ---- a place that chooses between one and the same place
-
-pub chooses_same : (shows : List Show) (bit low high : ℕ) → low ≡ high → Chooses shows bit low high low
-chooses_same shows bit low high e bits = by (bits bit)
-  where
-    by : (b : Bool) → class_at bits shows low ≡ (if b then class_at bits shows high else class_at bits shows low)
-    by true = ap (λ at. class_at bits shows at) e
-    by false = refl
-
 -- ---- splitting
 
 -- a test splits its place
@@ -98,11 +70,3 @@ split_at_test shows at bit low high d there e =
       high_starts = record { there = omega (arith, o.high_before, there); from = omega (arith, o.high_greater) };
       chooses = λ bits. class_chosen shows d bits at bit low high there e;
     }
-
--- a place that tests later bits alone is both of its branches
-pub split_past : (shows : List Show) (at bit : ℕ) → at < length shows → bit < bit_at shows at → IsSplit shows bit at at at
-split_past shows at bit there later = record {
-  low_starts = record { there = there; from = omega (arith, later) };
-  high_starts = record { there = there; from = omega (arith, later) };
-  chooses = chooses_same shows bit at at refl;
-}

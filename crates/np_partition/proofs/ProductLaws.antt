@@ -1,9 +1,9 @@
 -- The product tells apart what either of its factors does.
-use Rattle.std.proofs.Common.{◌≡◌, ℕ, zero, suc, ◌<◌, Bool, true, false, List, [], ◌∷◌, ◌++◌, length, map, Some, refl, sym, ◌∙◌, ap, arith, ◌⊎◌, inl, inr}
+use Rattle.std.proofs.Common.{◌≡◌, ℕ, zero, suc, ◌<◌, Bool, false, List, [], ◌∷◌, ◌++◌, length, Some, refl, sym, ◌∙◌, ap, arith, ◌⊎◌, inl, inr}
 use Rattle.std.specs.Prelude.{◌&&◌, slice_get, slice_index_or, None}
-use Rattle.std.specs.List.{All, AllByRecursion, IsDistinct}
+use Rattle.std.specs.List.{AllByRecursion, IsDistinct}
 use Rattle.std.proofs.lemmas.Bool.{true≢false, eq-eqb}
-use Rattle.std.proofs.lemmas.List.{length-append, length-map, get_or-map, map-append}
+use Rattle.std.proofs.lemmas.List.{length-map, get_or-map, map-append}
 use Rattle.std.proofs.lemmas.List.Elements.{All-append}
 use Rattle.std.proofs.lemmas.Map.Keys.{IsDistinct-head, IsDistinct-tail}
 use Rattle.std.proofs.lemmas.Option.{slice_get_within, slice_get-get_or, get_or_from_slice_get}
@@ -16,10 +16,10 @@ use Rattle.np_bdd.proofs.HeaderOfBits.{header_of, header_widths, header_of_bits}
 use Rattle.np_partition.specs.declared.partition.Partition.{Partition}
 use Rattle.np_partition.specs.declared.pairing.Pairing.{Pairing}
 use Rattle.np_partition.specs.declared.shows.Show.{Show}
-use Rattle.np_partition.specs.Diagram.{class_at, IsDiagram}
+use Rattle.np_partition.specs.Diagram.{class_at}
 use Rattle.np_partition.specs.Partition.{class_of, row, IsPartition}
-use Rattle.np_partition.specs.Pairing.{classes_at, AreReached, pair_of, same_pair, AddsReached, AreAllReached}
-use Rattle.np_partition.specs.Product.{members_at, sets_at, firsts, seconds, IsProduct}
+use Rattle.np_partition.specs.Pairing.{AreReached, pair_of, same_pair, AddsReached, AreAllReached}
+use Rattle.np_partition.specs.Product.{sets_at, firsts, seconds, IsProduct}
 use Rattle.np_partition.proofs.BitLaws.{reads_from}
 use Rattle.np_partition.proofs.SetLaws.{row_at, sizes_at}
 
@@ -138,7 +138,7 @@ module _ (first second : Partition) (pairs : List (ℕ × ℕ)) (p : Partition) 
       same : a ≡ b
       same = λ i. (
         is_first.apart a.0 b.0 (first_within a reached_a) (first_within b reached_b) parts.0 i,
-        is_second.apart a.1 b.1 (second_within a reached_a) (second_within b reached_b) parts.1 i
+        is_second.apart a.1 b.1 (second_within a reached_a) (second_within b reached_b) parts.1 i,
       )
 
   pub product_partition : IsPartition (xs ++ ys) p

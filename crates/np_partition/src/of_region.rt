@@ -34,12 +34,7 @@ impl Places {
     }
 
     // The place for a node of the store, from which bits lead inside where they lead from the node to `Yes`.
-    fn node(
-        &mut self,
-        memo: &mut NodeMemo,
-        store: &Diagrams,
-        x: Node,
-    ) -> Result<usize, AllocError>
+    fn node(&mut self, memo: &mut NodeMemo, store: &Diagrams, x: Node) -> Result<usize, AllocError>
         requires there { x.at < length store.now }
         requires memo { IsNodeMemo store.now self.old memo.old }
         ensures kept { OnOk result (KeepsPlaces self.old self.new) }

@@ -14,11 +14,7 @@ impl Partition {
     /// The classes that the regions tell apart, with a set for each region, in their order. Without regions it is one class, of
     /// all headers. Fails only for want of memory. The regions are taken by halves, so that each partition is made one with
     /// another of about as many regions.
-    pub fn of_regions(
-        alloc: Global,
-        store: &Diagrams,
-        xs: &[Node],
-    ) -> Result<Partition, AllocError>
+    pub fn of_regions(alloc: Global, store: &Diagrams, xs: &[Node]) -> Result<Partition, AllocError>
         requires { EachFits IsRegion store.now xs.now }
         ensures { IfOk result (IsPartition (tests_of node_has store.now xs.now)) }
     {

@@ -1,4 +1,4 @@
-use Rattle.std.proofs.Common.{◌≡◌, ◌+◌, ◌<◌, length, sym, ◌∙◌, ap, arith, if◌then◌else◌}
+use Rattle.std.proofs.Common.{◌<◌, length, sym, ◌∙◌, ap, arith, if◌then◌else◌}
 use Rattle.np_bdd.specs.Views.{bits_of_header}
 use Rattle.np_partition.specs.Diagram.{class_at}
 use Rattle.np_partition.proofs.DiagramLaws.{class_at_class, class_chosen, ordered_test}

@@ -1,5 +1,4 @@
 use Rattle.std.proofs.Common.{◌∙◌, ◌++◌, ap, slice_get, List}
-use Rattle.np_bdd.specs.Views.{Bits}
 use Rattle.np_partition.specs.Diagram.{class_at}
 use Rattle.np_partition.specs.declared.shows.Show.{Show}
 use Rattle.np_partition.specs.Product.{sets_at, firsts, seconds}

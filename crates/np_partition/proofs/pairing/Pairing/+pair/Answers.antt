@@ -1,4 +1,3 @@
-use Rattle.np_partition.specs.Pairing.{IsPaired}
 use Rattle.np_partition.proofs.DiagramLaws.{bit_small}
 use Rattle.np_partition.proofs.MemoLaws.{memo_stays, memo_learns}
 use Rattle.np_partition.proofs.PairLaws.{keeps_pairing_chained, keeps_with_places, classes_paired, classes_reached, halves_paired, halves_reached}

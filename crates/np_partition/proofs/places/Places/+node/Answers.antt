@@ -1,7 +1,4 @@
 use Rattle.std.proofs.Common.{◌∙◌, sym}
-use Rattle.np_partition.specs.Places.{KeepsPlaces}
-use Rattle.np_partition.specs.NodePlaces.{IsPlaceOfNode}
-use Rattle.np_bdd.specs.Diagram.{IsOrderedTest}
 use Rattle.np_partition.proofs.PlaceLaws.{keeps_places_chained}
 use Rattle.np_partition.proofs.NodePlaceLaws.{node_kept, memo_kept, memo_learns, place_of_no, place_of_yes, test_ordered, place_of_test}
 use Rattle.np_partition.proofs.places.Places.+node.Goals as goal

@@ -59,7 +59,6 @@ fn put_port(out: &mut Vec<u8>, port: Option<u16>) -> Result<(), AllocError>
 }
 
 // Appends the line of an entry.
-#[tactic(auto, using(crate::proofs::LineLaws::entry_text))]
 fn put_entry(out: &mut Vec<u8>, entry: DrawnEntry) -> Result<(), AllocError>
     ensures { OnOk result (out.new.items ≡ out.old.items ++ joined_text ((false, lines.entry_line entry) ∷ [])) }
 {

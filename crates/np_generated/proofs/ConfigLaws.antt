@@ -1,5 +1,5 @@
 -- A generated configuration is read as the one that is meant.
-use Rattle.std.proofs.Common.{◌≡◌, ℕ, zero, suc, ◌+◌, ◌*◌, ◌<◌, ◌≤◌, Bool, true, false, max, List, [], ◌∷◌, ◌++◌, length, map, Option, Some, None, codes, refl, sym, ap, subst, ◌∙◌, append-nil, append_assoc, arith}
+use Rattle.std.proofs.Common.{◌≡◌, ℕ, ◌+◌, ◌*◌, ◌<◌, ◌≤◌, true, false, max, List, [], ◌∷◌, ◌++◌, length, map, Option, Some, codes, refl, sym, ap, ◌∙◌, append-nil, append_assoc, arith}
 use Rattle.std.specs.Prelude.{Ok, fold}
 use Rattle.std.specs.BTreeMap.{insert_entry}
 use Rattle.std.specs.Cmp.{nat_cmp_is}
@@ -7,14 +7,14 @@ use Rattle.std.specs.List.{AllByRecursion}
 use Rattle.std.specs.Ordering.{nat_cmp}
 use Rattle.std.specs.declared.cmp.Ordering.TheVariants.{Greater}
 use Rattle.std.proofs.lemmas.Bool.{le-leb}
-use Rattle.std.proofs.lemmas.List.{map-append}
+use Rattle.std.proofs.lemmas.List.{length-map, map-append}
 use Rattle.std.proofs.lemmas.List.Sums.{fold-append}
 use Rattle.np_text.specs.Joined.{AreLinesOfWords, joined_line}
 use Rattle.np_lines.specs.Reading.{EachSays, statements_said}
 use Rattle.np_acl.specs.declared.entries.Entry.{Entry}
 use Rattle.np_acl.specs.declared.kinds.Way.TheVariants.{Inward}
 use Rattle.np_acl_read.specs.Applied.{Applied}
-use Rattle.np_acl_read.specs.Adding.{Numbered, added, entry_limit}
+use Rattle.np_acl_read.specs.Adding.{Numbered, added}
 use Rattle.np_acl_read.specs.Declaring.{config_with, declared_by_config, plain_lists}
 use Rattle.np_acl_read.specs.Judging.{group_at, ip_line, line_says, next_number, number_limit, numbers_in}
 use Rattle.np_acl_read.specs.Reading.{config_of}
@@ -27,7 +27,6 @@ use Rattle.np_acl_read.specs.declared.statement.Statement.TheVariants as stateme
 use Rattle.np_acl_read.proofs.DeclarationLaws.{declared_one_more}
 use Rattle.np_acl_read.proofs.LineReading.{joined_lines_read}
 use Rattle.np_generate.specs.ConfigLines.{config_lines, entry_line, entry_lines}
-use Rattle.np_generate.specs.Drawing.{in_turn}
 use Rattle.np_generate.specs.Drawn.{a_net, some_entries}
 use Rattle.np_generate.specs.Generated.{config_text, drawn, generated_configs}
 use Rattle.np_generate.specs.declared.drawn.DrawnEntry.{DrawnEntry}
@@ -89,7 +88,7 @@ entry_added : (section : Section) (done : List (ℕ × Entry)) (n : ℕ) (entry 
 entry_added section [] n entry up = refl
 entry_added section (first ∷ done) n entry up =
     let last : insert_entry nat_cmp (first ∷ done) (10 * n + 10) (entry_meant entry) ≡ (first ∷ done) ++ (10 * n + 10, entry_meant entry) ∷ [] =
-        put_last (first ∷ done) (10 * n) (10 * n + 10) (entry_meant entry) up.each (omega arith) in
+    put_last (first ∷ done) (10 * n) (10 * n + 10) (entry_meant entry) up.each (omega arith) in
     ap (λ entries. record { section = sections.Closed; lists = (codes "100", entries) ∷ []; groups = groups_meant; entries = n + 1 }) last
 
 up_to_more : (n : ℕ) (done : List (ℕ × Entry)) (entry : Entry) → AreUpTo (10 * n) done → AreUpTo (10 * (n + 1)) (done ++ (10 * n + 10, entry) ∷ [])
@@ -188,8 +187,8 @@ config_read : (entries : List DrawnEntry) → AreEntries entries → config_of (
 unfolding config_lines
 config_read entries are =
     joined_lines_read (config_lines entries) saids
-      ((refl, (refl, tt)), ((refl, (refl, (refl, (refl, tt)))), entry_lines_words entries are.within))
-      (interface_said, (group_said, lines_say head (sections.Interface (codes "e0")) [] 0 entries head_declares (record { each = tt; most = refl }) (omega (arith, are.many)) are.within))
+    ((refl, (refl, tt)), ((refl, (refl, (refl, (refl, tt)))), entry_lines_words entries are.within))
+    (interface_said, (group_said, lines_say head (sections.Interface (codes "e0")) [] 0 entries head_declares (record { each = tt; most = refl }) (omega (arith, are.many)) are.within))
     ∙ ap (λ statements. Ok (config_with (declared_by_config (head ++ statements)))) (all_said (statements_from 0 entries))
     ∙ ap (λ config. Ok config) (meant_by entries are)
   where
@@ -207,10 +206,6 @@ unfolding drawn
 configs_read seed =
     all_read (drawn seed).0.entries (turns_within AreEntries (λ k. some_entries) 0 24 (a_net seed).1 (λ n x. record { many = entries_counted x; within = entries_within x }))
 
-lengths : {X Y : Type 0} (f : X → Y) (xs : List X) → length (map f xs) ≡ length xs
-lengths f [] = refl
-lengths f (x ∷ xs) = ap suc (lengths f xs)
-
 pub configs_counted : (seed : ℕ) → length (generated_configs seed) ≡ 24
 unfolding drawn
-configs_counted seed = lengths config_text (drawn seed).0.entries ∙ turns_counted (λ k. some_entries) 0 24 (a_net seed).1
+configs_counted seed = length-map (drawn seed).0.entries config_text ∙ turns_counted (λ k. some_entries) 0 24 (a_net seed).1

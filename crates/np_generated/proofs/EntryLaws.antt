@@ -1,21 +1,18 @@
 -- The line of a drawn entry says the entry that is meant.
-use Rattle.std.proofs.Common.{◌≡◌, ℕ, ◌<◌, ◌≤◌, Bool, true, false, List, [], ◌∷◌, ◌++◌, Option, Some, None, codes, refl, sym, ap, subst, ◌∙◌, arith}
+use Rattle.std.proofs.Common.{◌≡◌, ℕ, ◌<◌, Bool, true, false, List, [], ◌∷◌, ◌++◌, Option, Some, None, codes, refl, ap, subst, ◌∙◌}
 use Rattle.std.specs.Prelude.{◌||◌, Ok}
-use Rattle.std.specs.Fmt.{decimal, digits}
+use Rattle.std.specs.Fmt.{digits}
 use Rattle.std.proofs.lemmas.Bool.{lt-ltb}
 use Rattle.std.proofs.lemmas.List.{append-nil}
 use Rattle.np_text.specs.Addresses.{dotted}
 use Rattle.np_text.specs.Joined.{AreWords, is_word, joined_line}
 use Rattle.np_text.specs.Numbers.{number_of}
-use Rattle.np_text.specs.Words.{words_of}
 use Rattle.np_text.proofs.JoinedLaws.{words_of-joined_line}
 use Rattle.np_lines.specs.Judging.{◌>>=◌}
 use Rattle.np_lines.specs.Skipping.{words_say}
 use Rattle.np_space.specs.Patterns.{any_address, pattern}
 use Rattle.np_space.specs.Span.{span_from}
-use Rattle.np_space.specs.declared.spans.Span.{Span}
 use Rattle.np_acl.specs.Spans.{any_number}
-use Rattle.np_acl.specs.declared.entries.Entry.{Entry}
 use Rattle.np_acl.specs.declared.kinds.ListKind.TheVariants.{Extended}
 use Rattle.np_entry_read.specs.Canonical as canonical
 use Rattle.np_entry_read.specs.Canonical.{IsWritten, entry_words}
@@ -23,7 +20,6 @@ use Rattle.np_entry_read.proofs.CanonicalLaws.{entry_reads_back}
 use Rattle.np_entry_read.proofs.WrittenWords.{entry_is_words}
 use Rattle.np_acl_read.specs.declared.declared.Declared.{Declared}
 use Rattle.np_acl_read.specs.declared.statement.NumberedEntry.{NumberedEntry}
-use Rattle.np_acl_read.specs.declared.statement.Statement.{Statement}
 use Rattle.np_acl_read.specs.declared.statement.Statement.TheVariants as statement
 use Rattle.np_acl_read.specs.Adding.{entry_limit}
 use Rattle.np_acl_read.specs.Judging.{entry_or_remark, line_says, line_with, list_line, list_statement, next_number, numbers_in, unnumbered}
@@ -55,7 +51,7 @@ unfolding canonical.port_words ports_meant span_from
 port_same None within = refl
 port_same (Some port) within =
     subst (λ p. canonical.port_words (ports_meant (Some p)) ≡ lines.port_words (Some p)) within.is (
-      same_below (λ n. canonical.port_words (ports_meant (Some (port_at n)))) (λ n. lines.port_words (Some (port_at n))) 4 within.place [] refl within.few
+    same_below (λ n. canonical.port_words (ports_meant (Some (port_at n)))) (λ n. lines.port_words (Some (port_at n))) 4 within.place [] refl within.few
     )
 
 -- the ports, or types and codes, of an entry: none without a port

@@ -28,9 +28,13 @@ is_holding (Violated header path) = false
 abbrev pub all_hold : List Verdict → Bool
 all_hold verdicts = list_all is_holding verdicts
 
--- the text: the goals from 1 on, and a last line that says whether all hold
+-- the lines of the goals from 1 on, and a last line that says whether all hold
+abbrev pub verdicts_lines : Plan → List Verdict → List (List (List ℕ))
+verdicts_lines net verdicts = goals_lines net 1 verdicts ++ ((if all_hold verdicts then codes "holds" else codes "fails") ∷ []) ∷ []
+
+-- their text
 abbrev pub verdicts_text : Plan → List Verdict → List ℕ
-verdicts_text net verdicts = text_of (goals_lines net 1 verdicts ++ ((if all_hold verdicts then codes "holds" else codes "fails") ∷ []) ∷ [])
+verdicts_text net verdicts = text_of (verdicts_lines net verdicts)
 
 -- the interfaces of the path of a violated goal are among these
 abbrev pub HasInterfaces : List Interface → Verdict → Type 0

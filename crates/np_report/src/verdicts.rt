@@ -67,7 +67,7 @@ fn put_goals(text: &mut Vec<u8>, net: &Network, verdicts: &[Verdict]) -> Result<
     Ok(())
 }
 
-fn is_holding(verdict: &Verdict) -> bool
+pub(crate) fn is_holding(verdict: &Verdict) -> bool
     ensures { result ≡ report.is_holding verdict.now }
 {
     match verdict {

@@ -16,7 +16,7 @@ use Rattle.np_pred.proofs.Induction.{fold-And, fold-DstPort, fold-Proto}
 use Rattle.np_net.specs.Naming as naming
 use Rattle.np_net.specs.Plan.{Plan}
 use Rattle.np_net.specs.declared.filtering.Interface.{Interface}
-use Rattle.np_net_read.specs.Canonical as canonical
+use Rattle.np_net_text.specs.Canonical as canonical
 use Rattle.np_net_read.specs.Tables.{no_rules}
 use Rattle.np_generate.specs.declared.drawn.DrawnGoal.{DrawnGoal}
 use Rattle.np_generate.specs.Drawn.{DrawnNet, near_area, port_at}

@@ -5,7 +5,7 @@ ghost use Rattle.std.specs.Prelude.{◌≡◌, ℕ, Ok, length, map};
 ghost use Rattle.np_acl_read.specs.Reading.{config_of};
 ghost use Rattle.np_generate.specs.Generated.{drawn, generated_configs, generated_net};
 ghost use Rattle.np_net.specs.Network.{IsNetwork};
-ghost use Rattle.np_net_read.specs.Canonical.{net_text};
+ghost use Rattle.np_net_text.specs.Canonical.{net_text};
 ghost use Rattle.np_net_read.specs.Reading.{net_of};
 ghost use Rattle.np_generated.specs.Configs.{config_meant};
 ghost use Rattle.np_generated.specs.Network.{HasGeneratedSizes, network_meant};

@@ -8,7 +8,7 @@ use Rattle.std.specs.Fmt.{decimal}
 use Rattle.np_space.specs.declared.headers.Header.{Header}
 use Rattle.np_net.specs.Plan.{Plan}
 use Rattle.np_net.specs.declared.paths.Path.{Path}
-use Rattle.np_net_read.specs.CanonicalText.{line_text}
+use Rattle.np_net_text.specs.CanonicalText.{line_text}
 use Rattle.np_goals.specs.declared.verdicts.Verdict.{Verdict}
 use Rattle.np_goals.specs.declared.verdicts.Verdict.TheVariants.{Violated}
 use Rattle.np_report.specs.Summary.{hop_count, is_hop_line, is_violated, summary_text}

@@ -4,7 +4,7 @@ ghost use Rattle.std.specs.Prelude.{◌≡◌, ◌∷◌, ◌++◌, [], ℕ, len
 ghost use Rattle.std.specs.Fmt.{decimal};
 ghost use Rattle.np_text.specs.Appending.{AppendsFront};
 ghost use Rattle.np_net.specs.Plan.{Plan};
-ghost use Rattle.np_net_read.specs.CanonicalText.{line_text, spaced};
+ghost use Rattle.np_net_text.specs.CanonicalText.{line_text, spaced};
 ghost use Rattle.np_report.specs.Verdicts as report;
 ghost use Rattle.np_report.specs.Summary.{hop_count, is_hop_line, is_violated, summary_text};
 

@@ -222,3 +222,10 @@ next_area net case areas i some more below are also =
 pub judged_there : (net : Plan) (case : Case) (source k : ℕ) (goal : Goal) (verdict : Verdict) → k < length net.goals → goal ≡ get_or net.goals k goal → goal.from ≡ source → IsRight net case k verdict → IsJudged net case (record { source = source; goal = k; verdict = verdict })
 judged_there net case source k goal verdict below at from right =
     record { goal = below; source = λ d. ap (λ g. g.from) (sym (at ∙ get_or_default net.goals k goal d below)) ∙ from; right = right }
+
+-- halves of areas
+pub fits_first : (count : ℕ) (areas first second : List ℕ) → areas ≡ first ++ second → AreAreas count areas → AreAreas count first
+fits_first count areas first second whole are = λ x c. are x (subst (λ l. Contains l x) (sym whole) (Contains-append_left first second x c))
+
+pub fits_second : (count : ℕ) (areas first second : List ℕ) → areas ≡ first ++ second → AreAreas count areas → AreAreas count second
+fits_second count areas first second whole are = λ x c. are x (subst (λ l. Contains l x) (sym whole) (Contains-append_right first second x c))

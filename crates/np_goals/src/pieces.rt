@@ -1,10 +1,10 @@
 //! The goals judged area by area, in one thread or in several, and the results put into their places.
 
-ghost use Rattle.std.specs.Prelude.{◌≡◌, ◌⊎◌, ◌<◌, ◌+◌, ◌∷◌, ℕ, [], length, slice_index_or, IfOk, OnOk};
+ghost use Rattle.std.specs.Prelude.{◌≡◌, ◌<◌, ◌≤◌, ◌+◌, ◌++◌, ◌∷◌, ℕ, [], length, IfOk, OnOk};
 ghost use Rattle.std.specs.Thread.{IsSync};
 ghost use Rattle.np_net.specs.declared.filtering.Goal.{Goal};
 ghost use Rattle.np_goals.specs.Cases.{HasSizes, goal_at};
-ghost use Rattle.np_goals.specs.Judging.{AreRight, IsFlowFrom};
+ghost use Rattle.np_goals.specs.Judging.{IsFlowFrom};
 ghost use Rattle.np_goals.specs.Sources.{AreAreas, AreJudged, BeginsBefore, BeginsIn};
 
 use crate::cases::Case;
@@ -103,6 +103,18 @@ pub(crate) fn judge_piece<G: Gate>(
     Ok(results)
 }
 
+/// Two halves of at least two areas, of which the first is no shorter.
+fn halved(sources: &[AreaId]) -> (&[AreaId], &[AreaId])
+    requires { 2 ≤ length sources.now }
+    ensures whole { sources.now ≡ result.0.now ++ result.1.now }
+    ensures first { length result.0.now < length sources.now }
+    ensures second { length result.1.now < length sources.now }
+    ensures areas_first { (count : ℕ) → AreAreas count sources.now → AreAreas count result.0.now }
+    ensures areas_second { (count : ℕ) → AreAreas count sources.now → AreAreas count result.1.now }
+{
+    sources.split_at(sources.len() - sources.len() / 2)
+}
+
 /// The same in up to so many threads, by halves of the areas.
 pub(crate) fn judge_halves<R: Threads + Sync, G: Gate + Sync>(
     rt: &R,
@@ -120,7 +132,7 @@ pub(crate) fn judge_halves<R: Threads + Sync, G: Gate + Sync>(
     if sources.len() < 2 || workers < 2 {
         return judge_piece(alloc, net, case, sources, gate);
     }
-    let (first, second) = sources.split_at(sources.len() - sources.len() / 2);
+    let (first, second) = halved(sources);
     let (one, other) = join(
         rt,
         || -> Result<Items<Judged>, AllocError>

@@ -106,8 +106,8 @@ pub passes_there : (goals : List Goal) (area m k : ℕ) (goal : Goal) → goal �
 passes_there goals area m k goal at other before = elim (cases_lt k m) [
   | inl below ↦ (below, before.1)
   | inr above ↦
-    let same : k ≡ m = omega (arith, before.0) in
-    absurd (other (ap (λ g. g.from) at ∙ subst (λ n. (get_or goals n goal).from ≡ area) same (before.1 goal)))
+      let same : k ≡ m = omega (arith, before.0) in
+      absurd (other (ap (λ g. g.from) at ∙ subst (λ n. (get_or goals n goal).from ≡ area) same (before.1 goal)))
 ]
 
 -- ---- the areas

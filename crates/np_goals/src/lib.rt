@@ -12,7 +12,7 @@ mod placing;
 mod sources;
 mod verdicts;
 
-pub use all::{judge, judge_par};
+pub use all::judge;
 pub use cases::{Case, case_of};
 pub use flowing::flows;
 pub use gate::{Gate, NoGate};

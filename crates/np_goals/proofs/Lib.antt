@@ -1,4 +1,5 @@
 pub mod StepLaws
+pub mod SourceLaws
 pub mod CaseLaws
 pub mod MakingLaws
 pub mod Listing

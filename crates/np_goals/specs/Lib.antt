@@ -1,5 +1,6 @@
 pub mod Verdicts
 pub mod Cases
 pub mod Judging
+pub mod Sources
 pub mod Making
 pub mod Existence

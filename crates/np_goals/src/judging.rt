@@ -1,20 +1,15 @@
-//! The verdicts.
+//! The verdict on one goal.
 
-ghost use Rattle.std.specs.Prelude.{◌≡◌, ◌⊎◌, ◌<◌, ℕ, [], length, slice_index_or, IfOk};
+ghost use Rattle.std.specs.Prelude.{◌≡◌, ◌⊎◌, ◌<◌, ℕ, length, IfOk};
 ghost use Rattle.np_net.specs.declared.filtering.Goal.{Goal};
-ghost use Rattle.np_cut.specs.AppliedLists.{AppliedLists, applied_lets};
-ghost use Rattle.np_goals.specs.Cases.{HasSizes, IsCaseOf, goal_at};
-ghost use Rattle.np_goals.specs.Judging.{AreFlows, AnswersLeast, IsAtomVerdict, IsBadFor, IsInBoth, IsLeastNumber, IsRight};
-ghost use Rattle.np_goals.specs.Verdicts.{IsVerdict};
-ghost use Rattle.np_goals.specs.declared.verdicts.Verdict.TheVariants.{Holds};
+ghost use Rattle.np_goals.specs.Cases.{HasSizes, goal_at};
+ghost use Rattle.np_goals.specs.Judging.{AnswersLeast, IsAtomVerdict, IsBadFor, IsFlowFrom, IsInBoth, IsLeastNumber, IsRight};
 
 use crate::cases::Case;
-use crate::flowing::flows;
 use crate::verdicts::Verdict;
 use np_atomset::AtomSet;
 use np_flow::{Reached, first_path};
-use np_net::Network;
-use sqlite_items::Items;
+use np_net::{AreaId, Network};
 use std::alloc::{AllocError, Global};
 
 /// The least atom that both sets have. The second may have no atoms at all, as where a network has no
@@ -31,24 +26,24 @@ fn first_common(alloc: Global, xs: &AtomSet, ys: &AtomSet) -> Result<Option<usiz
     Ok(both.first())
 }
 
-/// The least atom that the goal forbids and that some path from its one area to the other carries.
+/// The least atom that the goal forbids and that some path from its one area, whose flow this is, to the
+/// other carries.
 fn least_bad(
     alloc: Global,
     net: &Network,
     case: &Case,
-    flows: &[Option<Reached>],
+    source: AreaId,
+    reached: &Reached,
     k: usize,
 ) -> Result<Option<usize>, AllocError>
     requires sizes { HasSizes net.now.interfaces net.now.goals case.now }
-    requires flows { AreFlows net.now case.now.posture.slots (length net.now.areas) flows.now }
+    requires flow { IsFlowFrom net.now case.now.posture.slots source reached.now.sets }
     requires goal { k < length net.now.goals }
+    requires begins { (d : Goal) → (goal_at net.now.goals d k).from ≡ source }
     ensures { IfOk result (λ found. (d : Goal) → AnswersLeast (IsBadFor net.now case.now (goal_at net.now.goals d k) k) found) }
 {
     let goal = &net.goals.as_slice()[k];
-    match &flows[goal.from as usize] {
-        Some(reached) => first_common(alloc, &case.bad.as_slice()[k], reached.at(goal.to)),
-        None => unreachable!(),
-    }
+    first_common(alloc, &case.bad.as_slice()[k], reached.at(goal.to))
 }
 
 /// The verdict on a goal of which this is the least atom that breaks it.
@@ -72,37 +67,23 @@ fn violated(
     }
 }
 
-/// The verdict on one goal.
-fn verdict(
+/// The verdict on one goal, which begins at the area whose flow this is.
+pub(crate) fn verdict(
     alloc: Global,
     net: &Network,
     case: &Case,
-    flows: &[Option<Reached>],
+    source: AreaId,
+    reached: &Reached,
     k: usize,
 ) -> Result<Verdict, AllocError>
     requires sizes { HasSizes net.now.interfaces net.now.goals case.now }
-    requires flows { AreFlows net.now case.now.posture.slots (length net.now.areas) flows.now }
+    requires flow { IsFlowFrom net.now case.now.posture.slots source reached.now.sets }
     requires goal { k < length net.now.goals }
+    requires begins { (d : Goal) → (goal_at net.now.goals d k).from ≡ source }
     ensures { IfOk result (λ verdict. IsRight net.now case.now k verdict) }
 {
-    match least_bad(alloc, net, case, flows, k)? {
+    match least_bad(alloc, net, case, source, reached, k)? {
         Some(atom) => violated(alloc, net, case, k, atom),
         None => Ok(Verdict::Holds),
     }
-}
-
-/// The verdict on each filtering goal, in the order of the goals: over all paths of any length and all
-/// valid headers, for whatever applied lists this is the case of. Fails only for want of memory. Each
-/// area at which goals begin has one flow.
-pub fn judge(alloc: Global, net: &Network, case: &Case) -> Result<Items<Verdict>, AllocError>
-    requires { HasSizes net.now.interfaces net.now.goals case.now }
-    ensures count { IfOk result (λ v. length v ≡ length net.now.goals) }
-    ensures verdicts { IfOk result (λ v. (applied : AppliedLists) → IsCaseOf net.now.interfaces net.now.goals applied case.now → (k : ℕ) (d : Goal) → k < length net.now.goals → IsVerdict net.now.interfaces (applied_lets applied) (goal_at net.now.goals d k) (slice_index_or v k Holds)) }
-{
-    let flows = flows(alloc, net, &case.posture)?;
-    let mut verdicts = Items::new(alloc);
-    for k in 0..net.goals.len() {
-        verdicts.push(verdict(alloc, net, case, flows.as_slice(), k)?)?;
-    }
-    Ok(verdicts)
 }

@@ -1,2 +1,4 @@
-pub mod WordLaws
+pub mod NameLaws
+pub mod PlaceLaws
 pub mod WalkLaws
+pub mod WordLaws

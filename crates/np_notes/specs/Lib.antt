@@ -7,4 +7,5 @@ pub mod NameNotes
 pub mod Notes
 pub mod Shaping
 pub mod Naming
+pub mod Places
 pub mod Walked

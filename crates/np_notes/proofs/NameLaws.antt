@@ -94,7 +94,7 @@ list_note_by_count group None = refl
 list_note_by_count group (Some []) = refl
 list_note_by_count group (Some (entry ∷ entries)) = refl
 
-lists_declared : (statements : List Statement) → (declared_by_config statements).lists ≡ lists_of statements
+pub lists_declared : (statements : List Statement) → (declared_by_config statements).lists ≡ lists_of statements
 unfolding declared_by_config
 lists_declared statements = refl
 

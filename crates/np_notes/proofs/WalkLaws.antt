@@ -47,13 +47,13 @@ fold_append f b (x ∷ xs) ys = fold_append f (f b x) xs ys
 
 -- ---- the context
 
-foreign_more : (earlier : List ReadLine) (line : ReadLine) → is_foreign_open (line ∷ earlier) ≡ foreign_after (shape_of line) (is_foreign_open earlier)
+pub foreign_more : (earlier : List ReadLine) (line : ReadLine) → is_foreign_open (line ∷ earlier) ≡ foreign_after (shape_of line) (is_foreign_open earlier)
 foreign_more earlier line = by (goes_on (shape_of line)) refl where
   by : (b : Bool) → goes_on (shape_of line) ≡ b → is_foreign_open (line ∷ earlier) ≡ (if b then is_foreign_open earlier else begins_foreign_list (shape_of line))
   by true on = rw on refl
   by false off = rw off refl
 
-strayed_more : (earlier : List ReadLine) (line : ReadLine) → has_strayed (line ∷ earlier) ≡ strayed_after (shape_of line) (has_strayed earlier)
+pub strayed_more : (earlier : List ReadLine) (line : ReadLine) → has_strayed (line ∷ earlier) ≡ strayed_after (shape_of line) (has_strayed earlier)
 strayed_more earlier line =
     ap (λ lines. list_any (λ l. is_outer (shape_of l)) lines) (take_while-cons (λ l. not (is_interface_kind (line_kind l))) line earlier)
     ∙ by (is_interface_kind (line_kind line))

@@ -9,3 +9,4 @@ pub mod Shaping
 pub mod Naming
 pub mod Places
 pub mod Walked
+pub mod Clean

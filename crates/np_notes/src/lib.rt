@@ -5,6 +5,7 @@ mod context;
 mod group_line;
 mod group_notes;
 mod kinds;
+pub mod laws;
 mod line_notes;
 mod line_shape;
 mod missing;

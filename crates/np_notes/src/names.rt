@@ -32,11 +32,7 @@ pub fn add_name(alloc: Global, names: &mut Names, name: &Name) -> Result<(), All
 }
 
 /// The names of those of these interfaces that are a device's.
-fn names_at(
-    alloc: Global,
-    interfaces: &[Interface],
-    device: DevId,
-) -> Result<Names, AllocError>
+fn names_at(alloc: Global, interfaces: &[Interface], device: DevId) -> Result<Names, AllocError>
     ensures { IfOk result (λ names. names ≡ with_each [] (filter_map (name_at_device device) interfaces.now)) }
 {
     let mut names = Names::new(alloc);

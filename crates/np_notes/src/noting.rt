@@ -44,13 +44,7 @@ fn add_name_notes(
 {
     let found = &mut walk.found;
     let interfaces = net.interfaces.as_slice();
-    add_missing(
-        alloc,
-        &mut found.notes,
-        &found.named,
-        device,
-        interfaces,
-    )?;
+    add_missing(alloc, &mut found.notes, &found.named, device, interfaces)?;
     add_applied(
         alloc,
         net,

@@ -72,11 +72,13 @@ fn group_line(
     ensures { IfOk result (λ group. group ≡ names.group_in number said.now) }
 {
     match said {
-        Some(Statement::Group {
-            interface,
-            way,
-            list,
-        }) => Ok(Some(GroupLine {
+        Some(
+            Statement::Group {
+                interface,
+                way,
+                list,
+            },
+        ) => Ok(Some(GroupLine {
             line: number,
             interface: interface.copy(alloc)?,
             way: *way,

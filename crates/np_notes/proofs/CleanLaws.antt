@@ -1,7 +1,7 @@
 -- What it means that a configuration has no note of lines.
 use Rattle.std.proofs.Common.{◌≡◌, ◌⊎◌, inl, inr, ℕ, Bool, true, false, List, [], ◌∷◌, ◌++◌, map, Option, Some, None, refl, sym, ap, subst, ◌∙◌, append_assoc}
-use Rattle.std.specs.Prelude.{◌&&◌, ◌||◌, not, Ok, option_map, if◌then◌else◌, IsTrue}
-use Rattle.std.specs.List.{AllByRecursion, cons_option, filter_map}
+use Rattle.std.specs.Prelude.{◌&&◌, ◌||◌, not, Ok, option_map, if◌then◌else◌}
+use Rattle.std.specs.List.{AllByRecursion, cons_option}
 use Rattle.std.specs.Map.{lookup}
 use Rattle.std.specs.Option.{option_or, option_to_list}
 use Rattle.std.specs.Str.{bytes_eq}
@@ -20,19 +20,18 @@ use Rattle.np_acl_read.specs.declared.statement.NumberedEntry.{NumberedEntry}
 use Rattle.np_acl_read.specs.declared.statement.Statement.{Statement}
 use Rattle.np_acl_read.specs.declared.statement.Statement.TheVariants as statement
 use Rattle.np_acl_read.specs.Adding.{added}
-use Rattle.np_acl_read.specs.Declaring.{closed_list, config_with, declared_by_config, entries_of, lists_of, plain_lists, section_after}
-use Rattle.np_acl_read.specs.Judging.{in_list, line_says}
+use Rattle.np_acl_read.specs.Declaring.{closed_list, declared_by_config, entries_of, lists_of, plain_lists}
+use Rattle.np_acl_read.specs.Judging.{in_list}
 use Rattle.np_acl_read.specs.Reading.{config_of}
 use Rattle.np_notes.specs.declared.kinds.Kind.{Kind}
 use Rattle.np_notes.specs.declared.kinds.Kind.TheVariants as kinds
-use Rattle.np_notes.specs.declared.note.Note.{Note}
 use Rattle.np_notes.specs.declared.note.Note.TheVariants as notes
 use Rattle.np_notes.specs.Clean.{BeginsForeignList, GoesOn, IsAmong, IsClean, IsEntryOf, IsIndented, LooksLikeEntry, MayStandAtInterface, MayStandInList, SaysEntry, StandsInForeignList, StandsInSection}
 use Rattle.np_notes.specs.Foreign.{begins_foreign_list, goes_on, is_foreign_open, is_outer}
 use Rattle.np_notes.specs.Kinds.{is_other_kind, is_skipped_kind, kind_of}
 use Rattle.np_notes.specs.LineNotes.{closed_list_name, has_strayed, is_not_modelled, is_stray_entry, line_notes, line_notes_after, note_of_line, note_of_shape, strayed_from}
 use Rattle.np_notes.specs.ReadLines.{ReadLine, Shape, line_kind, read_lines, shape_of, statements_of}
-use Rattle.np_notes.specs.Shape.{are_heading, is_indented, looks_like_entry, word_at}
+use Rattle.np_notes.specs.Shape.{are_heading, is_indented}
 use Rattle.np_notes.specs.Shaping.{foreign_after, strayed_after}
 use Rattle.np_notes.proofs.AmongLaws.{entry_among}
 use Rattle.np_notes.proofs.NameLaws.{lists_declared}

@@ -1,6 +1,6 @@
 -- What is known of a line by what it says.
 use Rattle.std.proofs.Common.{◌≡◌, ◌⊎◌, inl, inr, length, arith, ℕ, Bool, true, false, List, [], ◌∷◌, Option, Some, None, refl, sym, ap, subst, ◌∙◌}
-use Rattle.std.specs.Prelude.{nat_lt, ◌&&◌, ◌||◌, ◌==◌, Ok, Err, is_some, if◌then◌else◌, codes, IsTrue}
+use Rattle.std.specs.Prelude.{nat_lt, ◌&&◌, ◌||◌, ◌==◌, Ok, Err, is_some, if◌then◌else◌, codes}
 use Rattle.std.specs.Char.{is_ascii_digit}
 use Rattle.std.specs.Fmt.{decimal}
 use Rattle.std.specs.Str.{all_ascii_digits, bytes_eq}
@@ -10,7 +10,6 @@ use Rattle.np_text.specs.Numbers.{is_numeral}
 use Rattle.np_text.specs.Words.{words_of}
 use Rattle.np_lines.specs.Judging.{Judged, ◌>>=◌, ended, within}
 use Rattle.np_lines.specs.Skipping.{begins_with, is_skipped, words_say}
-use Rattle.np_acl.specs.declared.entries.Entry.{Entry}
 use Rattle.np_acl.specs.declared.kinds.ListKind.{ListKind}
 use Rattle.np_acl.specs.declared.kinds.ListKind.TheVariants.{Extended, Standard}
 use Rattle.np_acl.specs.declared.kinds.Way.{Way}
@@ -24,10 +23,10 @@ use Rattle.np_acl_read.specs.declared.statement.NumberedEntry.{NumberedEntry}
 use Rattle.np_acl_read.specs.declared.statement.Statement.{Statement}
 use Rattle.np_acl_read.specs.declared.statement.Statement.TheVariants as statement
 use Rattle.np_acl_read.specs.Adding.{entry_limit}
-use Rattle.np_acl_read.specs.Judging.{access_list, acted, begins_list_line, entry_or_remark, group_at, group_line, in_list, interface_line, ip_line, is_negated, keyword_says, line_of_list, line_says, line_with, list_entry, list_line, list_number, list_statement, next_number, no_line, numbered, numbers_in, open_list, other_line, said_or_other, section_entry, section_line, section_statement, sequence_number, unnumbered}
+use Rattle.np_acl_read.specs.Judging.{access_list, acted, begins_list_line, entry_or_remark, group_at, group_line, in_list, interface_line, ip_line, is_negated, keyword_says, line_of_list, line_says, line_with, list_entry, list_line, list_number, list_statement, next_number, no_line, numbers_in, open_list, other_line, said_or_other, section_entry, section_line, section_statement, sequence_number}
 use Rattle.np_acl_read.specs.Words.{action_of, action_word, way_of}
 use Rattle.np_notes.specs.Clean.{SaysEntry}
-use Rattle.np_notes.specs.Shape.{begins_entry, is_action, looks_like_entry, word_at}
+use Rattle.np_notes.specs.Shape.{begins_entry, looks_like_entry, word_at}
 
 -- ---- what holds of a value, if there is one
 

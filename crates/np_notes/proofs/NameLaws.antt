@@ -1,6 +1,6 @@
 -- Notes of names, one after another.
-use Rattle.std.proofs.Common.{◌≡◌, ℕ, Bool, true, false, List, [], ◌∷◌, ◌++◌, length, Option, Some, None, refl, sym, ap, ◌∙◌, append_assoc, arith}
-use Rattle.std.specs.Prelude.{zero, suc, ◌||◌, ◌==◌, not, fold, option_map, if◌then◌else◌}
+use Rattle.std.proofs.Common.{◌≡◌, ℕ, Bool, true, false, List, [], ◌∷◌, ◌++◌, length, Option, Some, None, refl, sym, ap, ◌∙◌, append_assoc}
+use Rattle.std.specs.Prelude.{zero, suc, ◌||◌, option_map, if◌then◌else◌}
 use Rattle.std.specs.List.{cons_option, filter_map, list_any}
 use Rattle.std.specs.Map.{lookup}
 use Rattle.std.specs.Option.{option_to_list}
@@ -12,12 +12,11 @@ use Rattle.std.proofs.lemmas.Map.Steps.{list_any_congr}
 use Rattle.np_acl.specs.declared.entries.Entry.{Entry}
 use Rattle.np_acl_read.specs.declared.statement.Statement.{Statement}
 use Rattle.np_acl_read.specs.Declaring.{declared_by_config, lists_of, with_name}
-use Rattle.np_net.specs.declared.filtering.Interface.{Interface}
 use Rattle.np_notes.specs.declared.group_line.GroupLine.{GroupLine}
 use Rattle.np_notes.specs.declared.note.Note.{Note}
 use Rattle.np_notes.specs.declared.note.Note.TheVariants as notes
 use Rattle.np_notes.specs.declared.walk.Walk.{Walk}
-use Rattle.np_notes.specs.NameNotes.{group_note, group_notes, groups_of, interfaces_named, last_groups, list_note, missing_note, missing_notes, name_at_device}
+use Rattle.np_notes.specs.NameNotes.{group_note, group_notes, groups_of, interfaces_named, last_groups, list_note, missing_note, missing_notes}
 use Rattle.np_notes.specs.Naming.{with_each}
 use Rattle.np_notes.specs.Notes.{name_notes}
 use Rattle.np_notes.specs.ReadLines.{ReadLine, statements_of}

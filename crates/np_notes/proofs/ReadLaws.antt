@@ -1,12 +1,11 @@
 -- The lines of a configuration are read one after another.
-use Rattle.std.proofs.Common.{◌≡◌, ℕ, ◌+◌, Bool, true, false, List, [], ◌∷◌, ◌++◌, map, Option, Some, None, refl, sym, ap, subst, ◌∙◌, append-nil, append_assoc}
+use Rattle.std.proofs.Common.{◌≡◌, ℕ, ◌+◌, List, [], ◌∷◌, ◌++◌, map, Option, Some, None, refl, sym, ap, subst, ◌∙◌, append-nil, append_assoc}
 use Rattle.std.specs.Prelude.{Ok, Err}
-use Rattle.std.specs.List.{cons_option, enumerate_from, filter_map}
+use Rattle.std.specs.List.{cons_option, enumerate_from}
 use Rattle.np_text.specs.Lines.{lines_of, numbered_lines}
 use Rattle.np_lines.specs.Declaring.{added_if, lines_give}
 use Rattle.np_lines.specs.Judging.{Judged, ◌>>=◌}
 use Rattle.np_lines.specs.Reading.{and_one, at_line, statements_from, text_says}
-use Rattle.np_lines.specs.declared.fault.LineFault.{LineFault}
 use Rattle.np_lines.proofs.LineReading.{text_gives_lines}
 use Rattle.np_entry_read.specs.declared.fault.ConfigWhy.{ConfigWhy}
 use Rattle.np_acl_read.specs.declared.config.Config.{Config}
@@ -17,7 +16,7 @@ use Rattle.np_acl_read.specs.Declaring.{config_with, declared_by_config, section
 use Rattle.np_acl_read.specs.Judging.{line_says}
 use Rattle.np_acl_read.specs.Reading.{config_of}
 use Rattle.np_acl_read.proofs.DeclarationLaws.{declared_one_more}
-use Rattle.np_notes.specs.Clean.{AreItsLines, IsReadAfter}
+use Rattle.np_notes.specs.Clean.{AreItsLines}
 use Rattle.np_notes.specs.ReadLines.{ReadLine, lines_from, read_after, read_lines, statements_of, unless_faulty}
 
 -- ---- lines that are read

@@ -1,5 +1,5 @@
 -- What it means that a configuration has no note of lines.
-use Rattle.std.specs.Prelude.{◌≡◌, ◌⊎◌, ℕ, Bool, true, false, List, [], ◌∷◌, ◌++◌, map, Option, Some, Ok, IsTrue}
+use Rattle.std.specs.Prelude.{◌≡◌, ◌⊎◌, ℕ, Bool, false, List, ◌∷◌, ◌++◌, map, Some, Ok, IsTrue}
 use Rattle.std.specs.List.{AllByRecursion}
 use Rattle.std.specs.Map.{lookup}
 use Rattle.std.specs.Str.{bytes_eq}
@@ -13,13 +13,12 @@ use Rattle.np_acl.specs.declared.kinds.Way.{Way}
 use Rattle.np_entry_read.specs.Entries.{entry_of}
 use Rattle.np_acl_read.specs.declared.config.Config.{Config}
 use Rattle.np_acl_read.specs.declared.declared.Section.TheVariants as sections
-use Rattle.np_acl_read.specs.declared.statement.NumberedEntry.{NumberedEntry}
 use Rattle.np_acl_read.specs.declared.statement.Statement.TheVariants as statement
 use Rattle.np_acl_read.specs.Declaring.{declared_by_config, section_of}
 use Rattle.np_acl_read.specs.Judging.{line_says}
 use Rattle.np_acl_read.specs.Words.{action_word}
 use Rattle.np_notes.specs.declared.kinds.Kind.TheVariants as kinds
-use Rattle.np_notes.specs.ReadLines.{ReadLine, line_kind, read_lines, statements_of}
+use Rattle.np_notes.specs.ReadLines.{ReadLine, line_kind, statements_of}
 use Rattle.np_notes.specs.Shape.{are_heading, is_indented, looks_like_entry, word_at}
 
 -- ---- the lines of a configuration

@@ -58,6 +58,21 @@ def dear():
     return net + ['auth x y any'] * 16
 
 
+def dear_conf():
+    """Sixteen goals of any packet, and 256 gateways with an interface each on an area and on a net that isn't trusted: 192 rules of
+    the first one on sources and destinations make some 9,000 classes of packets, and each other has 14 of these rules and lets out
+    what isn't the area's."""
+    net = ['area x 10.0.0.0/8 trusted', 'area net 0.0.0.0/0']
+    net += [f'device g{k} trusted' for k in range(256)]
+    net += [f'interface g{k} {name}' for k in range(256) for name in ('e0 x', 'e1 net')]
+    net += [f'sa t{k} ah g{k} g{(k + 1) % 256}' for k in range(256)]
+    net += [f'outrule g0 e1 discard plain {end} 10.{k}.0.0/16' for end in ('src', 'dst') for k in range(96)]
+    for k in range(1, 256):
+        net += [f'outrule g{k} e1 discard plain src 10.{(k + n) % 96}.0.0/16' for n in range(14)]
+        net += [f'outrule g{k} e1 bypass plain not src x']
+    return net + ['conf x any'] * 16
+
+
 def run(program, net):
     with tempfile.TemporaryDirectory() as folder:
         with open(os.path.join(folder, 'net'), 'w') as file:
@@ -75,6 +90,8 @@ def main():
         print(f'{associations} associations, {rules} rules, {goals} goals: {seconds:.3f} s, {last[0]}, status {ended.returncode}')
     seconds, ended = run(program, dear())
     print(f'64 associations, 256 rules, 16 goals, each packet with each mark: {seconds:.3f} s, status {ended.returncode}')
+    seconds, ended = run(program, dear_conf())
+    print(f'256 associations, 4,017 rules, 16 goals, each packet at 512 interfaces: {seconds:.3f} s, status {ended.returncode}')
 
 
 if __name__ == '__main__':

@@ -1,35 +1,89 @@
--- What is read of the classes, and the order of the atoms.
-use Rattle.std.proofs.Common.{◌≡◌, ℕ, suc, zero, ◌<◌, ◌≤◌, Bool, true, false, List, [], ◌∷◌, ◌++◌, length, get_or, map, refl, sym, ◌∙◌, ap, subst, arith, append_assoc}
-use Rattle.std.specs.Prelude.{◌↔◌, IsTrue}
-use Rattle.std.specs.List.{All, AllPairs, Any}
+-- What is read of the classes, the order of the atoms, and the numbers of their regions.
+use Rattle.std.proofs.Common.{◌≡◌, ℕ, suc, zero, ◌<◌, ◌≤◌, Bool, true, false, List, [], ◌∷◌, ◌++◌, length, get_or, refl, sym, ◌∙◌, ap, subst, inl, inr, arith, append_assoc, eq-eqb}
+use Rattle.std.specs.Prelude.{◌==◌, ◌&&◌, IsTrue, sum_by}
+use Rattle.std.specs.List.{All, AllPairs, Any, position_or_len}
 use Rattle.std.specs.List.Sorted.{IsPermutation, IsSortedBy, IsStrictlySortedBy}
 use Rattle.std.specs.Ordering.{is_lt}
 use Rattle.std.specs.declared.cmp.Ordering.TheVariants.{Less}
 use Rattle.std.proofs.Math.ListN.{get_or-map}
+use Rattle.std.proofs.lemmas.Bool.{true≢false, cases_lt, eqb-true, and_parts}
 use Rattle.std.proofs.lemmas.List.{map-append, length-map, get_or-map as get_or_inside}
 use Rattle.std.proofs.lemmas.List.Elements.{All-nil, All-head, All-tail, All-push, All-map, All-weaker, recursion_from_All}
 use Rattle.std.proofs.lemmas.List.Sorted.{All-permutation, IsPermutation-map, sum_by-IsPermutation, sorted_far, ranks_by}
+use Rattle.std.proofs.lemmas.List.Sums.{sum_by-cons, fails_before_first, passes_at_first, position_or_len_is}
 use Rattle.np_space.specs.Flag.{flag_number}
-use Rattle.np_atomset.specs.AtomSet.{has_member}
-use Rattle.np_space.specs.Classes.{IsAlike, IsLeastAlike, HasAlike}
+use Rattle.np_space.specs.Classes.{IsAlike, IsLeastAlike, HasAlike, AreLeasts}
 use Rattle.np_space.specs.Header.{is_valid_header, IsValid, IsLeast, header_order}
 use Rattle.np_space.specs.declared.headers.Header.{Header}
 use Rattle.np_space.proofs.ClassLaws.{before_from_distinct}
-use Rattle.np_space.proofs.FlagLemmas.{flag_small}
+use Rattle.np_space.proofs.FlagLemmas.{flag_small, same_answers, and_both}
 use Rattle.np_space.proofs.HeaderLemmas.{order_total}
 use Rattle.np_region.specs.Keeping.{KeepsRegions, EachFits, tests_of}
-use Rattle.np_atomizer.specs.Atoms.{regions_of, leasts_of, cut_sets, AreAtoms}
-use Rattle.np_atomizer.specs.Splitting.{count_having, HasSome, IsClass, AreClasses, IsRead}
+use Rattle.np_atoms.specs.Atoms.{cut_sets, AreAtoms}
+use Rattle.np_atomizer.specs.Splitting.{DivideValid, number_in, count_having, HasSome, IsClass, AreClasses, IsRead, AreInOrder}
+use Rattle.np_atomizer.specs.AtomList.{regions_of, leasts_of, is_before}
 use Rattle.np_atomizer.specs.declared.atom_list.Atom.{Atom}
 use Rattle.np_atomizer.proofs.SplitLaws.{count_cons}
 
--- the least member of the n-th atom
-pub least_at : {R : Type 0} (atoms : List (Atom R)) (n : ℕ) (a : Atom R) (d : Header) → n < length atoms → a ≡ get_or atoms n a → get_or (leasts_of atoms) n d ≡ a.least
-least_at atoms n a d l at = get_or_inside (λ x. x.least) atoms n a d l ∙ ap (λ x. x.least) (sym at)
+-- ---- numbers
 
--- an element of a list that equals another
-pub item_is : {X : Type 0} (xs ys : List X) (n : ℕ) (x : X) → xs ≡ ys → x ≡ get_or xs n x → x ≡ get_or ys n x
-item_is xs ys n x same at = at ∙ ap (λ l. get_or l n x) same
+-- where one passes, there is a first that does
+pub first_within : {X : Type 0} (p : X → Bool) (xs : List X) (n : ℕ) (d : X) → n < length xs → p (get_or xs n d) ≡ true → position_or_len p xs < length xs
+first_within p xs n d l e = elim (cases_lt (position_or_len p xs) (length xs)) [
+  | inl below ↦ below
+  | inr past ↦ absurd (true≢false (sym e ∙ fails_before_first p xs n d (omega arith)))
+]
+
+-- an element that passes counts
+passing_counted : {X : Type 0} (p : X → Bool) (xs : List X) (n : ℕ) (d : X) → n < length xs → p (get_or xs n d) ≡ true → 1 ≤ sum_by (λ x. flag_number (p x)) xs
+passing_counted p [] n d l e = absurd (omega arith)
+passing_counted p (x ∷ xs) zero d l e =
+    let first = sum_by-cons (λ y. flag_number (p y)) x xs in
+    let one : flag_number (p x) ≡ 1 = ap flag_number e in
+    omega arith
+passing_counted p (x ∷ xs) (suc n) d l e =
+    let first = sum_by-cons (λ y. flag_number (p y)) x xs in
+    let rest = passing_counted p xs n d (omega arith) e in
+    omega arith
+
+-- where one alone passes, it stands at one place
+pub one_place : {X : Type 0} (p : X → Bool) (xs : List X) (i j : ℕ) (d : X) → sum_by (λ x. flag_number (p x)) xs ≤ 1 → i < length xs → j < length xs → p (get_or xs i d) ≡ true → p (get_or xs j d) ≡ true → i ≡ j
+one_place p [] i j d once l m e f = absurd (omega arith)
+one_place p (x ∷ xs) zero zero d once l m e f = refl
+one_place p (x ∷ xs) zero (suc j) d once l m e f =
+    let first = sum_by-cons (λ y. flag_number (p y)) x xs in
+    let one : flag_number (p x) ≡ 1 = ap flag_number e in
+    let rest = passing_counted p xs j d (omega arith) f in
+    absurd (omega arith)
+one_place p (x ∷ xs) (suc i) zero d once l m e f =
+    let first = sum_by-cons (λ y. flag_number (p y)) x xs in
+    let one : flag_number (p x) ≡ 1 = ap flag_number f in
+    let rest = passing_counted p xs i d (omega arith) e in
+    absurd (omega arith)
+one_place p (x ∷ xs) (suc i) (suc j) d once l m e f =
+    let first = sum_by-cons (λ y. flag_number (p y)) x xs in
+    ap suc (one_place p xs i j d (omega arith) (omega arith) (omega arith) e f)
+
+-- the n-th of the regions that divide the valid headers has those whose number is n
+pub numbered_region : {R : Type 0} (fits : R → Type 0) (has : R → Header → Bool) (valid : (r : R) (h : Header) → fits r → IsTrue (has r h) → IsValid h) (regions : List R) (n : ℕ) (d : R) (h : Header) → DivideValid fits has regions → n < length regions → has (get_or regions n d) h ≡ (is_valid_header h && (number_in has regions h == n))
+numbered_region {R} fits has valid regions n d h divide l = same_answers (has (get_or regions n d) h) (is_valid_header h && (number == n)) to from
+  where
+    number : ℕ
+    number = number_in has regions h
+
+    once : sum_by (λ r. flag_number (has r h)) regions ≤ 1
+    once = let c = divide.count h in let f = flag_small (is_valid_header h) in omega arith
+
+    to : has (get_or regions n d) h ≡ true → (is_valid_header h && (number == n)) ≡ true
+    to e =
+        let below = first_within (λ r. has r h) regions n d l e in
+        let first = passes_at_first (λ r. has r h) regions d below in
+        and_both (is_valid_header h) (number == n) (valid (get_or regions n d) h (divide.fit n d l) e) (eq-eqb number n (one_place (λ r. has r h) regions number n d once below l first e))
+
+    from : (is_valid_header h && (number == n)) ≡ true → has (get_or regions n d) h ≡ true
+    from e =
+        let same : number ≡ n = eqb-true number n (and_parts (is_valid_header h) (number == n) e).1 in
+        ap (λ k. has (get_or regions k d) h) (sym same) ∙ passes_at_first (λ r. has r h) regions d (subst (λ k. k < length regions) (sym same) l)
 
 module _ {S R : Type 0} (fits : S → R → Type 0) (has : S → R → Header → Bool) where
   -- ---- reading the classes
@@ -80,13 +134,13 @@ module _ {S R : Type 0} (fits : S → R → Type 0) (has : S → R → Header �
       append-nil (x ∷ xs) = ap (λ l. x ∷ l) (append-nil xs)
   read_all s regions (r ∷ left) atoms none so_far = absurd (omega arith)
 
-  -- ---- the sets of the cuts
+  -- ---- the tests of the cuts
 
-  -- they are those that the cuts had in the store before
-  sets_same : (old s : S) (cuts : List R) (leasts : List Header) → KeepsRegions fits has old s → EachFits fits old cuts → cut_sets (tests_of has s cuts) leasts ≡ cut_sets (tests_of has old cuts) leasts
-  sets_same old s [] leasts k each = refl
-  sets_same old s (cut ∷ cuts) leasts k each =
-      λ i. map (λ h. k.same cut (All-head (fits old) cut cuts each) h i) leasts ∷ sets_same old s cuts leasts k (All-tail (fits old) cut cuts each) i
+  -- they are those that the cuts were in the store before
+  pub tests_same : (old s : S) (cuts : List R) → KeepsRegions fits has old s → EachFits fits old cuts → tests_of has s cuts ≡ tests_of has old cuts
+  tests_same old s [] k each = refl
+  tests_same old s (cut ∷ cuts) k each =
+      λ i. (λ h. k.same cut (All-head (fits old) cut cuts each) h i) ∷ tests_same old s cuts k (All-tail (fits old) cut cuts each) i
 
   -- ---- how many atoms have a header
 
@@ -125,7 +179,7 @@ module _ {S R : Type 0} (fits : S → R → Type 0) (has : S → R → Header �
   IsNotAfter x y = is_lt (header_order y.least x.least) ≡ false
 
   -- so it is with any two of a sorted list
-  pairs_from_sorted : (atoms : List (Atom R)) → IsSortedBy (λ x y. is_lt (header_order x.least y.least)) atoms → AllPairs IsNotAfter atoms
+  pairs_from_sorted : (atoms : List (Atom R)) → IsSortedBy is_before atoms → AllPairs IsNotAfter atoms
   pairs_from_sorted atoms sorted i j d l m =
       sorted_far (λ x y. is_lt (header_order x.least y.least)) (ranks_by order_total (λ (x : Atom R). x.least)) atoms sorted i j d (omega arith) m
 
@@ -186,22 +240,27 @@ module _ {S R : Type 0} (fits : S → R → Type 0) (has : S → R → Header �
         }
 
     -- sorted atoms are the atoms of the tests
-    pub atoms_in_order : (s : S) (tests : List (Header → Bool)) (atoms : List (Atom R)) (sets : List (List Bool)) → sets ≡ cut_sets tests (leasts_of atoms) → All (IsAtom s tests) atoms → ((h : Header) → count_having has s (regions_of atoms) h ≡ flag_number (is_valid_header h)) → IsSortedBy (λ x y. is_lt (header_order x.least y.least)) atoms → AreAtoms fits has s tests atoms sets
-    atoms_in_order s tests atoms sets said all count sorted =
+    pub atoms_in_order : (s : S) (tests : List (Header → Bool)) (atoms : List (Atom R)) → All (IsAtom s tests) atoms → ((h : Header) → count_having has s (regions_of atoms) h ≡ flag_number (is_valid_header h)) → IsSortedBy is_before atoms → AreInOrder fits has s tests atoms
+    atoms_in_order s tests atoms all count sorted =
         record {
-          cover = record {
-            fit = All-map (fits s) (λ x. x.region) atoms (All-weaker (IsAtom s tests) (λ x. fits s x.region) (λ a p. p.class.fit) atoms all);
-            some = found;
-          };
           leasts = record {
             each = All-map (IsLeastAlike tests) (λ x. x.least) atoms (All-weaker (IsAtom s tests) (λ x. IsLeastAlike tests x.least) (least_alike s tests) atoms all);
             ascending = ascend s atoms (pairs_from_sorted atoms sorted) (λ h. let c = count h in let f = flag_small (is_valid_header h) in omega arith) (All-weaker (IsAtom s tests) (λ x. has s x.region x.least ≡ true) (λ a p. p.least.has) atoms all);
             reached = reached;
           };
-          sets = said;
-          exact = All-weaker (IsAtom s tests) (λ x. (h : Header) → (IsTrue (has s x.region h) → IsValid h × IsAlike tests x.least h) × (IsValid h × IsAlike tests x.least h → IsTrue (has s x.region h))) exact_one atoms all;
+          regions = record {
+            fit = All-map (fits s) (λ x. x.region) atoms (All-weaker (IsAtom s tests) (λ x. fits s x.region) (λ a p. p.class.fit) atoms all);
+            count = count;
+          };
+          numbers = record {
+            within = λ h v. subst (λ k. number h < k) (length-map atoms (λ (x : Atom R). x.region) ∙ sym (length-map atoms (λ (x : Atom R). x.least))) (numbered h v);
+            alike = numbered_alike;
+          };
         }
       where
+        number : Header → ℕ
+        number h = number_in (has s) (regions_of atoms) h
+
         found : (h : Header) → IsValid h → Any (λ a. IsTrue (has s a.region h)) atoms
         found h v =
             let c = count h in
@@ -219,104 +278,52 @@ module _ {S R : Type 0} (fits : S → R → Type 0) (has : S → R → Header �
               alike = atom.class.only a.least h atom.least.has f.4;
             }
 
-        exact_one : (a : Atom R) → IsAtom s tests a → (h : Header) → (IsTrue (has s a.region h) → IsValid h × IsAlike tests a.least h) × (IsValid h × IsAlike tests a.least h → IsTrue (has s a.region h))
-        exact_one a atom h = (
-          (λ p. (valid s a.region h atom.class.fit p, atom.class.only a.least h atom.least.has p)),
-          (λ p. atom.class.all a.least h atom.least.has p.0 p.1),
-        )
+        -- some region has the header, so there is a first one
+        numbered : (h : Header) → IsValid h → number h < length (regions_of atoms)
+        numbered h v =
+            let f = found h v in
+            first_within (λ r. has s r h) (regions_of atoms) f.0 f.1.region (subst (λ n. f.0 < n) (sym (length-map atoms (λ (x : Atom R). x.region))) f.2)
+            (ap (λ r. has s r h) (get_or-map (λ x. x.region) atoms f.0 f.1 ∙ ap (λ x. x.region) f.3) ∙ f.4)
+
+        numbered_alike : (h d : Header) → IsValid h → IsAlike tests (get_or (leasts_of atoms) (number h) d) h
+        numbered_alike h d v =
+            let n = number h in
+            let e = (found h v).1 in
+            let below : n < length atoms = subst (λ k. n < k) (length-map atoms (λ (x : Atom R). x.region)) (numbered h v) in
+            let a = get_or atoms n e in
+            let atom : IsAtom s tests a = all n e below in
+            let here : has s a.region h ≡ true = ap (λ r. has s r h) (sym (get_or-map (λ x. x.region) atoms n e)) ∙ passes_at_first (λ r. has s r h) (regions_of atoms) e.region (numbered h v) in
+            subst (λ x. IsAlike tests x h) (sym (get_or_inside (λ (x : Atom R). x.least) atoms n e d below)) (atom.class.only a.least h atom.least.has here)
 
     -- the atoms that are read of the classes, once they are sorted
-    pub atoms_sorted : (old s : S) (cuts classes : List R) (before after : List (Atom R)) (sets : List (List Bool)) → EachFits fits old cuts → KeepsRegions fits has old s → AreClasses fits has s (tests_of has old cuts) classes → regions_of before ≡ classes → All (IsRead has s) before → IsPermutation before after → IsSortedBy (λ x y. is_lt (header_order x.least y.least)) after → sets ≡ cut_sets (tests_of has s cuts) (leasts_of after) → AreAtoms fits has s (tests_of has old cuts) after sets
-    atoms_sorted old s cuts classes before after sets fc k are same read moved sorted said =
-        let tests = tests_of has old cuts in
+    pub atoms_sorted : (s : S) (classes : List R) (before after : List (Atom R)) → regions_of before ≡ classes → All (IsRead has s) before → IsPermutation before after → IsSortedBy is_before after → (tests : List (Header → Bool)) → AreClasses fits has s tests classes → AreInOrder fits has s tests after
+    atoms_sorted s classes before after same read moved sorted tests are =
         let all : All (IsAtom s tests) before =
         all_atoms s tests before (subst (All (IsClass fits has s tests)) (sym same) are.each) read in
-        atoms_in_order s tests after sets (said ∙ sets_same old s cuts (leasts_of after) k fc) (All-permutation (IsAtom s tests) before after moved all)
+        atoms_in_order s tests after (All-permutation (IsAtom s tests) before after moved all)
         (λ h.
         sum_by-IsPermutation (λ r. flag_number (has s r h)) (regions_of before) (regions_of after) (IsPermutation-map (λ x. x.region) before after moved)
         ∙ ap (λ l. count_having has s l h) same
         ∙ are.count h)
         sorted
 
-  -- ---- the atom that has a header
-
-  -- its region fits the store
-  pub region_fits : (s : S) (atoms : List (Atom R)) (n : ℕ) (a : Atom R) → EachFits fits s (regions_of atoms) → n < length atoms → a ≡ get_or atoms n a → fits s a.region
-  region_fits s atoms n a each l at =
-      subst (fits s) (get_or-map (λ x. x.region) atoms n a ∙ ap (λ x. x.region) (sym at)) (each n a.region (subst (λ k. n < k) (sym (length-map atoms (λ (x : Atom R). x.region))) l))
-
-  -- and its least member is alike
-  pub alike_found : (s : S) (atoms : List (Atom R)) (n : ℕ) (a : Atom R) (h : Header) → n < length atoms → a ≡ get_or atoms n a → (answer : Bool) → answer ≡ has s a.region h → answer ≡ true → (tests : List (Header → Bool)) (sets : List (List Bool)) → AreAtoms fits has s tests atoms sets → (d : Header) → IsAlike tests (get_or (leasts_of atoms) n d) h
-  alike_found s atoms n a h l at answer e p tests sets are d =
-      let exact = are.exact n a l h in
-      let alike = (exact.0 (ap (λ x. has s x.region h) (sym at) ∙ sym e ∙ p)).1 in
-      subst (λ x. IsAlike tests x h) (sym (get_or_inside (λ (x : Atom R). x.least) atoms n a d l)) alike
-
-  -- ---- for callers
-
-  -- the set of the k-th cut
-  set_at : (s : S) (tests : List (Header → Bool)) (atoms : List (Atom R)) (sets : List (List Bool)) (k : ℕ) (e : Header → Bool) → AreAtoms fits has s tests atoms sets → k < length tests → get_or sets k [] ≡ map (get_or tests k e) (leasts_of atoms)
-  set_at s tests atoms sets k e are l =
-      ap (λ xs. get_or xs k []) are.sets
-      ∙ get_or_inside (λ (test : Header → Bool). map test (leasts_of atoms)) tests k e [] l
-
-  -- the atoms stay atoms over calls that keep the regions
-  pub atoms_kept : (s t : S) (tests : List (Header → Bool)) (atoms : List (Atom R)) (sets : List (List Bool)) → KeepsRegions fits has s t → AreAtoms fits has s tests atoms sets → AreAtoms fits has t tests atoms sets
-  atoms_kept s t tests atoms sets k are =
+  -- with the sets of the cuts they are the atoms of the cuts
+  pub atoms_with_sets : (old s : S) (cuts : List R) (atoms : List (Atom R)) (leasts : List Header) (sets : List (List Bool)) → EachFits fits old cuts → KeepsRegions fits has old s → AreInOrder fits has s (tests_of has old cuts) atoms → leasts ≡ leasts_of atoms → sets ≡ cut_sets (tests_of has s cuts) leasts → AreAtoms (tests_of has old cuts) (record { leasts = leasts; cuts = sets })
+  atoms_with_sets old s cuts atoms leasts sets fc k are read said =
       record {
-        cover = record {
-          fit = λ n d l. k.fit (get_or (regions_of atoms) n d) (are.cover.fit n d l);
-          some = λ h v. let f = are.cover.some h v in (f.0, f.1, f.2, f.3, same f.0 f.1 h f.2 f.3 ∙ f.4);
-        };
-        leasts = are.leasts;
-        sets = are.sets;
-        exact = λ n d l h.
-            let a = get_or atoms n d in
-            let at = n_th n d l in
-            ((λ p. (are.exact n d l h).0 (sym (k.same a.region at h) ∙ p)), (λ p. k.same a.region at h ∙ (are.exact n d l h).1 p));
+        leasts = subst (AreLeasts (tests_of has old cuts)) (sym read) are.leasts;
+        sets = said ∙ ap (λ tests. cut_sets tests leasts) (tests_same old s cuts k fc);
       }
-    where
-      n_th : (n : ℕ) (d : Atom R) → n < length atoms → fits s (get_or atoms n d).region
-      n_th n d l = subst (fits s) (get_or_inside (λ (x : Atom R). x.region) atoms n d d.region l) (are.cover.fit n d.region (subst (λ m. n < m) (sym (length-map atoms (λ (x : Atom R). x.region))) l))
 
-      same : (n : ℕ) (a : Atom R) (h : Header) → n < length atoms → get_or atoms n a ≡ a → has t a.region h ≡ has s a.region h
-      same n a h l at = k.same a.region (subst (λ x. fits s x.region) at (n_th n a l)) h
+  -- ---- the region that has a header
 
-  -- there is a set for each cut, and each is a set of the atoms
-  pub sets_counted : (s : S) (tests : List (Header → Bool)) (atoms : List (Atom R)) (sets : List (List Bool)) → AreAtoms fits has s tests atoms sets → (length sets ≡ length tests) × ((k : ℕ) → k < length sets → length (get_or sets k []) ≡ length atoms)
-  sets_counted s tests atoms sets are = (
-    counted,
-    λ k l.
-        ap length (set_at s tests atoms sets k (λ h. false) are (subst (λ n. k < n) counted l))
-        ∙ length-map (leasts_of atoms) (get_or tests k (λ h. false))
-        ∙ length-map atoms (λ (x : Atom R). x.least),
-  )
-    where
-      counted : length sets ≡ length tests
-      counted = ap length are.sets ∙ length-map tests (λ test. map test (leasts_of atoms))
+  -- it is the first one of which the header is asked with success
+  pub first_is : (s : S) (regions : List R) (n : ℕ) (r : R) (h : Header) → n < length regions → ((k : ℕ) (d : R) → k < n → has s (get_or regions k d) h ≡ false) → r ≡ get_or regions n r → has s r h ≡ true → n ≡ number_in (has s) regions h
+  first_is s regions n r h within none at e =
+      sym (position_or_len_is (λ x. has s x h) regions n r (omega arith) (λ k l. none k r l) (λ _. ap (λ x. has s x h) (sym at) ∙ e))
 
-  -- which has an atom where the cut has the atom's least member
-  pub answer_said : (s : S) (tests : List (Header → Bool)) (atoms : List (Atom R)) (sets : List (List Bool)) (n k : ℕ) (d : Header) (e : Header → Bool) → AreAtoms fits has s tests atoms sets → n < length atoms → k < length tests → has_member (get_or sets k []) n ≡ get_or tests k e (get_or (leasts_of atoms) n d)
-  answer_said s tests atoms sets n k d e are l m =
-      ap (λ xs. get_or xs n false) (set_at s tests atoms sets k e are m)
-      ∙ get_or_inside (get_or tests k e) (leasts_of atoms) n d false (subst (λ j. n < j) (sym (length-map atoms (λ (x : Atom R). x.least))) l)
-
-  -- the n-th region fits the store
-  pub region_in_store : (s : S) (tests : List (Header → Bool)) (atoms : List (Atom R)) (sets : List (List Bool)) (n : ℕ) (r : R) → AreAtoms fits has s tests atoms sets → n < length atoms → ((d : R) → r ≡ get_or (regions_of atoms) n d) → fits s r
-  region_in_store s tests atoms sets n r are l at =
-      subst (fits s) (sym (at r)) (are.cover.fit n r (subst (λ k. n < k) (sym (length-map atoms (λ (x : Atom R). x.region))) l))
-
-  -- and has exactly the valid headers that are alike to the n-th least member
-  pub region_is_class : (s : S) (tests : List (Header → Bool)) (atoms : List (Atom R)) (sets : List (List Bool)) (n : ℕ) (r : R) (x h : Header) → AreAtoms fits has s tests atoms sets → n < length atoms → ((d : R) → r ≡ get_or (regions_of atoms) n d) → ((d : Header) → x ≡ get_or (leasts_of atoms) n d) → IsTrue (has s r h) ↔ (IsValid h × IsAlike tests x h)
-  region_is_class s tests atoms sets n r x h are l at is =
-      by atoms are.exact l at is
-    where
-      by : (bs : List (Atom R)) → All (λ a. (h : Header) → IsTrue (has s a.region h) ↔ (IsValid h × IsAlike tests a.least h)) bs → n < length bs → ((d : R) → r ≡ get_or (regions_of bs) n d) → ((d : Header) → x ≡ get_or (leasts_of bs) n d) → IsTrue (has s r h) ↔ (IsValid h × IsAlike tests x h)
-      by [] exact l at is = absurd (omega arith)
-      by (a ∷ bs) exact l at is =
-          let same_region : r ≡ (get_or (a ∷ bs) n a).region = at r ∙ get_or_inside (λ (y : Atom R). y.region) (a ∷ bs) n a r l in
-          let same_least : x ≡ (get_or (a ∷ bs) n a).least = is x ∙ get_or_inside (λ (y : Atom R). y.least) (a ∷ bs) n a x l in
-          let one = exact n a l h in (
-            (λ p. let q = one.0 (ap (λ y. has s y h) (sym same_region) ∙ p) in (q.0, subst (λ y. IsAlike tests y h) (sym same_least) q.1)),
-            (λ q. ap (λ y. has s y h) same_region ∙ one.1 (q.0, subst (λ y. IsAlike tests y h) same_least q.1)),
-          )
+  -- and none is, where all are asked without
+  pub first_is_none : (s : S) (regions : List R) (n : ℕ) (h : Header) → n ≡ length regions → ((k : ℕ) (d : R) → k < n → has s (get_or regions k d) h ≡ false) → length regions ≡ number_in (has s) regions h
+  first_is_none s [] n h all none = refl
+  first_is_none s (r ∷ regions) n h all none =
+      sym (position_or_len_is (λ x. has s x h) (r ∷ regions) (length (r ∷ regions)) r (omega arith) (λ k l. none k r (omega arith)) (λ l. absurd (omega arith)))

@@ -2,7 +2,7 @@
 use Rattle.std.proofs.Common.{◌≡◌, ℕ, ◌+◌, Bool, true, false, List, [], ◌∷◌, ◌++◌, refl, sym, ◌∙◌, ap, subst, arith, zero-add, add-zero, length}
 use Rattle.std.specs.Prelude.{◌&&◌, not}
 use Rattle.std.specs.List.{All}
-use Rattle.std.proofs.lemmas.Bool.{true≢false}
+use Rattle.std.proofs.lemmas.Bool.{true≢false, and_parts}
 use Rattle.std.proofs.lemmas.List.{map-append}
 use Rattle.std.proofs.lemmas.List.Elements.{All-nil, All-cons, All-head, All-tail, All-append, All-weaker}
 use Rattle.std.proofs.lemmas.List.Sums.{sum_by-cons, sum_by-append}
@@ -17,12 +17,7 @@ use Rattle.np_atomizer.specs.Splitting.{count_having, HasSome, IsClass, AreClass
 
 -- ---- tests of two flags
 
--- both flags are set
-both_true : (r c : Bool) → (r && c) ≡ true → (r ≡ true) × (c ≡ true)
-both_true true c e = (refl, e)
-both_true false c e = absurd (true≢false (sym e))
-
--- the first alone is
+-- the first of two alone is set
 one_not : (r c : Bool) → (r && not c) ≡ true → (r ≡ true) × (c ≡ false)
 one_not true false e = (refl, refl)
 one_not true true e = absurd (true≢false (sym e))
@@ -118,7 +113,7 @@ module _ {S R : Type 0} (fits : S → R → Type 0) (has : S → R → Header �
             All-append P (inside ∷ []) (outside ∷ [])
             (single P inside (part_class s u cut r inside true tests c (l.fit inside fi)
             (λ none. some_in (λ h. sym (l.same inside fi h) ∙ none h))
-            (λ h p. both_true (has s r h) (has s cut h) (sym (in_u h) ∙ p))
+            (λ h p. and_parts (has s r h) (has s cut h) (sym (in_u h) ∙ p))
             (λ h p a. in_u h ∙ and_both (has s r h) (has s cut h) p a)))
             (single P outside (part_class s u cut r outside false tests c fo some_out
             (λ h p. one_not (has s r h) (has s cut h) (sym (out_u h) ∙ p))

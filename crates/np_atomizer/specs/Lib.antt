@@ -1,2 +1,4 @@
-pub mod Atoms
+pub mod AtomList
+pub mod ClassAtoms
+pub mod Numbers
 pub mod Splitting

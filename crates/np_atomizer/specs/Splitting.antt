@@ -1,12 +1,27 @@
--- What holds of the classes while they are cut. None of it stands in a public contract.
+-- How classes are made by cutting regions, over any store.
 use Rattle.std.specs.Prelude.{◌≡◌, ◌++◌, ◌∷◌, [], ℕ, Bool, false, IsTrue, List, sum_by}
-use Rattle.std.specs.List.{All}
+use Rattle.std.specs.List.{All, position_or_len}
 use Rattle.np_space.specs.Flag.{flag_number}
 use Rattle.np_space.specs.Header.{is_valid_header, IsValid, IsLeast}
 use Rattle.np_space.specs.declared.headers.Header.{Header}
 use Rattle.np_region.specs.Keeping.{EachFits}
-use Rattle.np_space.specs.Classes.{IsAlike}
+use Rattle.np_space.specs.Classes.{IsAlike, AreLeasts}
+use Rattle.np_atomizer.specs.Numbers.{AreNumbers}
+use Rattle.np_atomizer.specs.AtomList.{regions_of, leasts_of}
 use Rattle.np_atomizer.specs.declared.atom_list.Atom.{Atom}
+
+-- ---- what stands in the clauses of the store of lists
+
+-- regions that fit, of which each valid header is in exactly one and no other header in any
+pub record DivideValid {R : Type 0} (fits : R → Type 0) (has : R → Header → Bool) (regions : List R) : Type 0 where
+  pub fit : All fits regions
+  pub count : (h : Header) → sum_by (λ r. flag_number (has r h)) regions ≡ flag_number (is_valid_header h)
+
+-- the number of the first region that has the header, and how many regions there are where none has it
+abbrev pub number_in : {R : Type 0} → (R → Header → Bool) → List R → Header → ℕ
+number_in has regions h = position_or_len (λ r. has r h) regions
+
+-- ---- what holds of the classes while they are cut, which no public clause says
 
 -- how many of the regions have the header
 abbrev pub count_having : {S R : Type 0} → (S → R → Header → Bool) → S → List R → Header → ℕ
@@ -40,6 +55,14 @@ pub record HasParts {S R : Type 0} (fits : S → R → Type 0) (has : S → R �
   pub is : after ≡ before ++ more
   pub parts : AreParts fits has old new cut region more
 
+-- ---- the atoms
+
 -- an atom with its least member
 abbrev pub IsRead : {S R : Type 0} → (S → R → Header → Bool) → S → Atom R → Type 0
 IsRead has s a = IsLeast (has s a.region) a.least
+
+-- the atoms of the tests in the order of their least members, and the numbers of their regions
+pub record AreInOrder {S R : Type 0} (fits : S → R → Type 0) (has : S → R → Header → Bool) (s : S) (tests : List (Header → Bool)) (atoms : List (Atom R)) : Type 0 where
+  pub leasts : AreLeasts tests (leasts_of atoms)
+  pub regions : DivideValid (fits s) (has s) (regions_of atoms)
+  pub numbers : AreNumbers tests (leasts_of atoms) (number_in (has s) (regions_of atoms))

@@ -1,8 +1,13 @@
-//! Atoms: the classes of valid headers that no cut tells apart. A cut is a region of a store.
+//! Atoms: the classes of valid headers that no cut tells apart, as each store of regions finds them. A cut is a region of a
+//! store.
 #![tactic(auto)]
 
 mod atom_list;
-mod cutting;
+mod atomizer;
+mod block_lists;
+mod class_atoms;
+mod diagrams;
+mod splitting;
 
-pub use atom_list::Atoms;
-pub use cutting::atomize;
+pub use atomizer::{Atomized, Atomizer};
+pub use diagrams::PartitionClasses;

@@ -1,4 +1,4 @@
 pub mod AnswerLaws
-pub mod LeastLaws
+pub mod PassageLaws
 pub mod SearchLaws
 pub mod SoundLaws

@@ -1,16 +1,19 @@
 -- What a check of an authentication goal answers: that the local rules hold, or the first one that doesn't, with the first place and the least header that show it.
-use Rattle.std.specs.Prelude.{◌≡◌, ◌⊎◌, ℕ, ◌<◌, false, length, Option, Some, None, slice_index_or}
+use Rattle.std.specs.Prelude.{◌≡◌, ◌⊎◌, ℕ, ◌<◌, false, length, Option, slice_index_or}
 use Rattle.np_space.specs.Header.{IsLeastOf}
 use Rattle.np_space.specs.declared.headers.Header.{Header}
 use Rattle.np_pred.specs.declared.predicate.Pred.{Pred}
 use Rattle.np_net.specs.Plan.{Plan}
 use Rattle.np_net.specs.declared.associations.IpGoal.TheVariants as goals
+use Rattle.np_ipsec.specs.Goals.{IsForeign}
+use Rattle.np_ipsec.specs.Searching.{IsFirst}
 use Rattle.np_ipsec.specs.Steps.{area_at}
 use Rattle.np_auth.specs.declared.answers.Answer.{Answer}
 use Rattle.np_auth.specs.declared.answers.Answer.TheVariants.{Yes, No}
 use Rattle.np_auth.specs.declared.answers.Broken.{Broken}
 use Rattle.np_auth.specs.declared.answers.Broken.TheVariants.{A0Area, A0Interface, A1, A2}
-use Rattle.np_auth.specs.Rules.{AuthRules, HasSourceToo, IsForeign, IsTrustedArea, LetsForged}
+use Rattle.np_auth.specs.Passages.{ComesBefore}
+use Rattle.np_auth.specs.Rules.{AuthRules, HasSourceToo, IsTrustedArea, LetsForged}
 
 -- the goal of this number is an authentication goal with these areas and this predicate
 pub record IsAuthGoal (net : Plan) (goal from here : ℕ) (pred : Pred) : Type 0 where
@@ -33,11 +36,6 @@ abbrev pub IsFirstUntrusted : Plan → ℕ → ℕ → ℕ → Type 0
 IsFirstUntrusted net from here a =
     (((area_at net from).trusted ≡ false) × (a ≡ from)) ⊎ (IsTrustedArea net from × ((area_at net here).trusted ≡ false) × (a ≡ here))
 
--- the first interface that is on a trusted area and of a device that isn't trusted
-pub record IsFirstForeign (net : Plan) (i : ℕ) : Type 0 where
-  pub foreign : IsForeign net i
-  pub first : (j : ℕ) → j < i → IsForeign net j → ⊥
-
 -- rule A0 holds
 pub record HoldsA0 (net : Plan) (from here : ℕ) : Type 0 where
   pub areas : AreBothTrusted net from here
@@ -55,18 +53,6 @@ pub record IsFirstSource (net : Plan) (from : ℕ) (pred : Pred) (a : ℕ) (h : 
   pub first : (b : ℕ) (k : Header) → b < a → HasSourceToo net from pred b k → ⊥
 
 -- ---- A2
-
--- a mark comes before another: no mark before every association, and these in their order
-abbrev pub ComesBefore : Option ℕ → Option ℕ → Type 0
-ComesBefore None None = ⊥
-ComesBefore None (Some k) = Unit {0}
-ComesBefore (Some n) None = ⊥
-ComesBefore (Some n) (Some k) = n < k
-
--- the first association of which an interface lets a bare packet of the predicate pass with the mark, with the least such packet
-pub record IsFirstPopped (net : Plan) (pred : Pred) (i k : ℕ) (h : Header) : Type 0 where
-  pub least : IsLeastOf (LetsForged net pred i (Some k)) h
-  pub first : (n : ℕ) (other : Header) → n < k → LetsForged net pred i (Some n) other → ⊥
 
 -- the first mark with which an interface lets a bare packet of the predicate pass, with the least such packet
 pub record IsFirstMark (net : Plan) (pred : Pred) (i : ℕ) (mark : Option ℕ) (h : Header) : Type 0 where
@@ -91,7 +77,7 @@ pub record IsFirstForged (net : Plan) (pred : Pred) (i : ℕ) (mark : Option ℕ
 -- the first rule that doesn't hold, with what shows it
 abbrev pub IsBroken : Plan → ℕ → ℕ → Pred → Broken → Type 0
 IsBroken net from here pred (A0Area a) = IsFirstUntrusted net from here a
-IsBroken net from here pred (A0Interface i) = AreBothTrusted net from here × IsFirstForeign net i
+IsBroken net from here pred (A0Interface i) = AreBothTrusted net from here × IsFirst (IsForeign net) i
 IsBroken net from here pred (A1 a h) = HoldsA0 net from here × IsFirstSource net from pred a h
 IsBroken net from here pred (A2 i mark h) = HoldsA0 net from here × HoldsA1 net from pred × IsFirstForged net pred i mark h
 

@@ -1,4 +1,4 @@
 pub mod Rules
+pub mod Passages
 pub mod Answers
-pub mod Cuts
 pub mod Searches

@@ -8,6 +8,7 @@ use Rattle.np_net.specs.Path.{area_of, device_of}
 use Rattle.np_net.specs.Plan.{Plan}
 use Rattle.np_net.specs.declared.associations.InAction.TheVariants as ins
 use Rattle.np_net.specs.declared.associations.IpGoal.TheVariants as goals
+use Rattle.np_ipsec.specs.Goals.{IsForeign}
 use Rattle.np_ipsec.specs.Steps.{area_at, area_has}
 use Rattle.np_ipsec.specs.Tables.{has_pop, in_action_of, is_sound, is_trusted_device}
 use Rattle.np_ipsec.specs.Trajectories.{IsSafe}
@@ -18,12 +19,6 @@ use Rattle.np_ipsec.specs.declared.tables.Top.TheVariants as tops
 -- an area is trusted
 abbrev pub IsTrustedArea : Plan → ℕ → Type 0
 IsTrustedArea net a = (area_at net a).trusted ≡ true
-
--- an interface is on a trusted area and of a device that isn't trusted
-pub record IsForeign (net : Plan) (i : ℕ) : Type 0 where
-  pub within : i < length net.interfaces
-  pub inside : (area_at net (area_of net.interfaces i)).trusted ≡ true
-  pub foreign : is_trusted_device net (device_of net.interfaces i) ≡ false
 
 -- ---- A1
 

@@ -1,30 +1,25 @@
 //! The check of an authentication goal's local rules, rule by rule.
 
-ghost use Rattle.std.specs.Prelude.{◌≡◌, ◌<◌, ◌↔◌, ℕ, length, true, find, IsTrue, IfSome, MatchOption};
-ghost use Rattle.std.specs.Option.{option_copied};
-ghost use Rattle.np_space.specs.declared.headers.Header.{Header as Packet};
+ghost use Rattle.std.specs.Prelude.{◌≡◌, ◌<◌, ◌↔◌, ℕ, length, slice_index_or, IsTrue, MatchOption};
+ghost use Rattle.np_space.specs.Header.{zeros};
 ghost use Rattle.np_pred.specs.declared.predicate.Pred.{Pred as Predicate};
-ghost use Rattle.np_net.specs.Path as path;
-ghost use Rattle.np_ipsec.specs.Tables as tables;
-ghost use Rattle.np_auth.specs.Rules.{HasSourceToo, IsForeign, IsForgeable, LetsForged};
-ghost use Rattle.np_auth.specs.Answers.{AreBothTrusted, HoldsA1, HoldsA2, HoldsA2At, IsAnswer, IsAuth, IsAuthGoal, IsFirstForeign, IsFirstForged, IsFirstMark, IsFirstPopped, IsFirstSource, IsFirstUntrusted};
-ghost use Rattle.np_auth.specs.Cuts.{AreLeastsFor};
-ghost use Rattle.np_auth.specs.Searches.{is_bypass, is_passed, is_sent, Finds, IsMeant};
+ghost use Rattle.np_net.specs.declared.associations.IpGoal.TheVariants as goals;
+ghost use Rattle.np_ipsec.specs.Alike.{AreLeastsFor, KeepsAlike};
+ghost use Rattle.np_ipsec.specs.Searching.{Finds, FindsListed};
+ghost use Rattle.np_ipsec.specs.Trajectories.{IsSafe};
+ghost use Rattle.np_auth.specs.Rules.{AuthRules, HasSourceToo};
+ghost use Rattle.np_auth.specs.Answers.{AreBothTrusted, HoldsA1, HoldsA2, IsAnswer, IsAuth, IsAuthGoal, IsFirstForged, IsFirstSource, IsFirstUntrusted};
+ghost use Rattle.np_auth.specs.Passages as passages;
+ghost use Rattle.np_auth.specs.Passages.{ArePassages, passage_at};
+ghost use Rattle.np_auth.specs.Searches.{FindsPassage, IsMeantIn, IsSentAt, is_sent};
 
 use crate::answers::{Answer, Broken};
-use np_ipsec::{Place, Top, has_source, in_action, is_trusted, pops, sound};
-use np_net::{AreaId, IfId, InAction, IpGoal, Network, SaId};
+use crate::marking::{Passage, Passages};
+use np_atomset::AtomSet;
+use np_ipsec::{Place, first_foreign, has_source, is_trusted};
+use np_net::{AreaId, IfId, IpGoal, Network, SaId};
 use np_pred::Pred;
 use np_space::Header;
-
-/// The area that an interface is on.
-fn area_of(net: &Network, i: IfId) -> AreaId
-    requires { i < length net.now.interfaces }
-    ensures value { result ≡ path.area_of net.now.interfaces i }
-    ensures within { result < length net.now.areas }
-{
-    net.interfaces.as_slice()[i as usize].area
-}
 
 /// The first area of a goal that isn't trusted.
 fn first_untrusted(net: &Network, from: AreaId, here: AreaId) -> Option<AreaId>
@@ -41,34 +36,34 @@ fn first_untrusted(net: &Network, from: AreaId, here: AreaId) -> Option<AreaId>
     }
 }
 
-/// Whether an interface is on a trusted area and of a device that isn't trusted.
-fn is_foreign(net: &Network, i: IfId) -> bool
-    requires { i < length net.now.interfaces }
-    ensures { IsTrue result ↔ IsForeign net.now i }
+/// The header at a place of the list.
+fn header_at(headers: &[Header], n: usize) -> Header
+    requires { n < length headers.now }
+    ensures { result ≡ slice_index_or headers.now n zeros }
 {
-    is_trusted(net, Place::AtArea(area_of(net, i))) && !is_trusted(net, Place::AtIn(i))
+    headers[n]
 }
 
-/// The first interface that is on a trusted area and of a device that isn't trusted.
-fn first_foreign(net: &Network) -> Option<IfId>
-    ensures { MatchOption result ((i : ℕ) → IsForeign net.now i → ⊥) (λ i. IsFirstForeign net.now i) }
+/// Whether an area sends packets with this header, and the predicate holds for it.
+fn is_sent(net: &Network, pred: &Pred, a: AreaId, h: &Header) -> bool
+    requires { a < length net.now.areas }
+    ensures { result ≡ is_sent net.now pred.now a h.now }
 {
-    for i in 0..net.interfaces.len() {
-        if is_foreign(net, i as IfId) {
-            return Some(i as IfId);
-        }
-    }
-    None
+    pred.holds(h) && has_source(net, a, h)
 }
 
 /// The first of these headers for which the predicate holds and whose source an area has.
-fn first_sent<'a>(net: &Network, leasts: &'a [Header], pred: &Pred, a: AreaId) -> Option<&'a Header>
+fn first_sent(net: &Network, leasts: &[Header], pred: &Pred, a: AreaId) -> Option<Header>
     requires { a < length net.now.areas }
-    ensures { option_copied result ≡ find (λ h. is_sent net.now pred.now a h) leasts.now }
+    ensures { FindsListed (IsSentAt net.now pred.now a leasts.now) leasts.now result }
 {
-    leasts
-        .iter()
-        .find(|h| pred.holds(h) && has_source(net, a, h))
+    for n in 0..leasts.len() {
+        let h = header_at(leasts, n);
+        if is_sent(net, pred, a, &h) {
+            return Some(h);
+        }
+    }
+    None
 }
 
 /// The least header for which the predicate holds and whose source an area has, if the area is trusted and isn't the one
@@ -82,13 +77,13 @@ fn source_at(
 ) -> Option<Header>
     requires area { a < length net.now.areas }
     requires leasts { AreLeastsFor net.now leasts.now }
-    requires goal { IsMeant net.now pred.now }
+    requires goal { KeepsAlike net.now pred.now }
     ensures { Finds (HasSourceToo net.now from pred.now a) result }
 {
     if a == from || !is_trusted(net, Place::AtArea(a)) {
         return None;
     }
-    first_sent(net, leasts, pred, a).copied()
+    first_sent(net, leasts, pred, a)
 }
 
 /// The first area where the rule on sources doesn't hold, with the least header there.
@@ -99,7 +94,7 @@ fn first_source(
     pred: &Pred,
 ) -> Option<(AreaId, Header)>
     requires leasts { AreLeastsFor net.now leasts.now }
-    requires goal { IsMeant net.now pred.now }
+    requires goal { KeepsAlike net.now pred.now }
     ensures { MatchOption result (HoldsA1 net.now from pred.now) (λ found. IsFirstSource net.now from pred.now found.0 found.1) }
 {
     for a in 0..net.areas.len() {
@@ -110,131 +105,85 @@ fn first_source(
     None
 }
 
-/// Whether a bare packet passes an interface with this mark.
-fn passes(net: &Network, i: IfId, mark: Option<SaId>, h: &Header) -> bool
-    requires { i < length net.now.interfaces }
-    ensures { result ≡ is_bypass (tables.in_action_of net.now i (Top.Plain h.now) mark) }
+/// The passage at a place of the list.
+fn passage_at(list: &[Passage], n: usize) -> &Passage
+    requires { n < length list.now }
+    ensures { result.now ≡ passage_at list.now n }
 {
-    match in_action(net, i, &Top::Plain(*h), mark) {
-        InAction::Bypass => true,
-        InAction::Discard => false,
-    }
+    &list[n]
 }
 
-/// The first of these headers for which the predicate holds and with which a bare packet passes an interface with this mark.
-fn first_passed<'a>(
-    net: &Network,
-    leasts: &'a [Header],
-    pred: &Pred,
-    i: IfId,
-    mark: Option<SaId>,
-) -> Option<&'a Header>
-    requires { i < length net.now.interfaces }
-    ensures { option_copied result ≡ find (λ h. is_passed net.now pred.now i mark h) leasts.now }
+/// Whether the header at a place is in the set, and the predicate holds for it.
+fn is_meant(set: &AtomSet, leasts: &[Header], pred: &Pred, n: usize) -> bool
+    requires place { n < length leasts.now }
+    requires size { length set.now ≡ length leasts.now }
+    ensures { IsTrue result ↔ IsMeantIn set.now leasts.now pred.now n }
 {
-    leasts
-        .iter()
-        .find(|h| pred.holds(h) && passes(net, i, mark, h))
+    set.has(n) && pred.holds(&header_at(leasts, n))
 }
 
-/// Whether a packet with this mark may be forged: it has none and comes from an area that isn't trusted, or an association
-/// that isn't sound was around it.
-fn is_forgeable(net: &Network, i: IfId, mark: Option<SaId>) -> bool
-    requires interface { i < length net.now.interfaces }
-    requires mark { IfSome mark (λ k. k < length net.now.sas) }
-    ensures { IsTrue result ↔ IsForgeable net.now i mark }
+/// The first header of the set for which the predicate holds.
+fn first_passed(set: &AtomSet, leasts: &[Header], pred: &Pred) -> Option<Header>
+    requires { length set.now ≡ length leasts.now }
+    ensures { FindsListed (IsMeantIn set.now leasts.now pred.now) leasts.now result }
 {
-    match mark {
-        None => !is_trusted(net, Place::AtArea(area_of(net, i))),
-        Some(k) => pops(net, i, k) && !sound(net, k),
-    }
-}
-
-/// The least header for which the predicate holds and with which a bare packet passes an interface of a trusted device with
-/// this mark, if such a packet may be forged.
-fn forged_with(
-    net: &Network,
-    leasts: &[Header],
-    pred: &Pred,
-    i: IfId,
-    mark: Option<SaId>,
-) -> Option<Header>
-    requires interface { i < length net.now.interfaces }
-    requires mark { IfSome mark (λ k. k < length net.now.sas) }
-    requires device { tables.is_trusted_device net.now (path.device_of net.now.interfaces i) ≡ true }
-    requires leasts { AreLeastsFor net.now leasts.now }
-    requires goal { IsMeant net.now pred.now }
-    ensures { Finds (LetsForged net.now pred.now i mark) result }
-{
-    if !is_forgeable(net, i, mark) {
-        return None;
-    }
-    first_passed(net, leasts, pred, i, mark).copied()
-}
-
-/// The first association with whose mark a packet that may be forged passes an interface of a trusted device, with the
-/// least such packet's header.
-fn first_popped(net: &Network, leasts: &[Header], pred: &Pred, i: IfId) -> Option<(SaId, Header)>
-    requires interface { i < length net.now.interfaces }
-    requires device { tables.is_trusted_device net.now (path.device_of net.now.interfaces i) ≡ true }
-    requires leasts { AreLeastsFor net.now leasts.now }
-    requires goal { IsMeant net.now pred.now }
-    ensures { MatchOption result ((k : ℕ) (h : Packet) → LetsForged net.now pred.now i (Some k) h → ⊥) (λ found. IsFirstPopped net.now pred.now i found.0 found.1) }
-{
-    for k in 0..net.sas.len() {
-        if let Some(h) = forged_with(net, leasts, pred, i, Some(k as SaId)) {
-            return Some((k as SaId, h));
+    let start = set.first()?;
+    for n in start..leasts.len() {
+        if is_meant(set, leasts, pred, n) {
+            return Some(header_at(leasts, n));
         }
     }
     None
 }
 
-/// The first mark with which a packet that may be forged passes an interface, with the least such packet's header.
-fn forged_at(
-    net: &Network,
+/// The first of the passages where a packet of the predicate passes, with the first such packet's header.
+fn first_passage(
+    list: &[Passage],
     leasts: &[Header],
     pred: &Pred,
-    i: IfId,
-) -> Option<(Option<SaId>, Header)>
-    requires interface { i < length net.now.interfaces }
-    requires leasts { AreLeastsFor net.now leasts.now }
-    requires goal { IsMeant net.now pred.now }
-    ensures { MatchOption result (HoldsA2At net.now pred.now i) (λ found. IsFirstMark net.now pred.now i found.0 found.1) }
+) -> Option<(IfId, Option<SaId>, Header)>
+    requires { (m : ℕ) → m < length list.now → length (passages.passage_at list.now m).passing ≡ length leasts.now }
+    ensures { FindsPassage list.now leasts.now pred.now result }
 {
-    if !is_trusted(net, Place::AtIn(i)) {
-        return None;
+    for m in 0..list.len() {
+        let passage = passage_at(list, m);
+        if let Some(h) = first_passed(&passage.passing, leasts, pred) {
+            return Some((passage.interface, passage.mark, h));
+        }
     }
-    if let Some(h) = forged_with(net, leasts, pred, i, None) {
-        return Some((None, h));
-    }
-    let (k, h) = first_popped(net, leasts, pred, i)?;
-    Some((Some(k), h))
+    None
 }
 
 /// The first interface that a packet that may be forged passes, with the first mark there and the least such packet's header.
 fn first_forged(
     net: &Network,
     leasts: &[Header],
+    passages: &Passages,
     pred: &Pred,
 ) -> Option<(IfId, Option<SaId>, Header)>
     requires leasts { AreLeastsFor net.now leasts.now }
-    requires goal { IsMeant net.now pred.now }
+    requires passages { ArePassages net.now leasts.now passages.now }
+    requires goal { KeepsAlike net.now pred.now }
     ensures { MatchOption result (HoldsA2 net.now pred.now) (λ found. IsFirstForged net.now pred.now found.0 found.1 found.2) }
 {
-    for i in 0..net.interfaces.len() {
-        if let Some((mark, h)) = forged_at(net, leasts, pred, i as IfId) {
-            return Some((i as IfId, mark, h));
-        }
-    }
-    None
+    let _ = net;
+    first_passage(passages.list.as_slice(), leasts, pred)
 }
 
 /// Whether the local rules hold of a goal with these areas and this predicate.
-fn answer(net: &Network, leasts: &[Header], from: AreaId, here: AreaId, pred: &Pred) -> Answer
+fn answer(
+    net: &Network,
+    leasts: &[Header],
+    passages: &Passages,
+    from: AreaId,
+    here: AreaId,
+    pred: &Pred,
+) -> Answer
     requires from_in { from < length net.now.areas }
     requires here_in { here < length net.now.areas }
     requires leasts { AreLeastsFor net.now leasts.now }
-    requires goal { IsMeant net.now pred.now }
+    requires passages { ArePassages net.now leasts.now passages.now }
+    requires goal { KeepsAlike net.now pred.now }
     ensures { IsAnswer net.now from here pred.now result }
 {
     if let Some(a) = first_untrusted(net, from, here) {
@@ -246,23 +195,29 @@ fn answer(net: &Network, leasts: &[Header], from: AreaId, here: AreaId, pred: &P
     if let Some((a, h)) = first_source(net, leasts, from, pred) {
         return Answer::No(Broken::A1(a, h));
     }
-    if let Some((i, mark, h)) = first_forged(net, leasts, pred) {
+    if let Some((i, mark, h)) = first_forged(net, leasts, passages, pred) {
         return Answer::No(Broken::A2(i, mark, h));
     }
     Answer::Yes
 }
 
 /// Whether the local rules of an authentication goal hold; if not, the first one that doesn't, with the first place and the
-/// least header that show it. `leasts` has the least header of each class of those that no inward rule, no goal and no area
-/// tells apart, so each is asked once.
-pub fn check_auth(net: &Network, leasts: &[Header], goal: usize) -> Answer
+/// least header that show it. Where they hold, no trajectory of any depth breaks the goal.
+///
+/// `goal` is the number, from 0, of an authentication goal of the network. `leasts` has the least header of each class of those
+/// that no rule, no goal and no area tells apart, and `passages` are the network's, of these headers: so no rule is asked again.
+/// Takes no memory.
+pub fn check_auth(net: &Network, leasts: &[Header], passages: &Passages, goal: usize) -> Answer
     requires within { goal < length net.now.ipgoals }
     requires auth { IsAuth net.now goal }
     requires leasts { AreLeastsFor net.now leasts.now }
-    ensures { (from here : ℕ) (pred : Predicate) → IsAuthGoal net.now goal from here pred → IsAnswer net.now from here pred result }
+    requires passages { ArePassages net.now leasts.now passages.now }
+    ensures answer { (from here : ℕ) (pred : Predicate) → IsAuthGoal net.now goal from here pred → IsAnswer net.now from here pred result }
+    ensures yes { (from here : ℕ) (pred : Predicate) → IsAuthGoal net.now goal from here pred → (result ≡ Answer.Yes) ↔ AuthRules net.now from here pred }
+    ensures safe { (from here : ℕ) (pred : Predicate) → IsAuthGoal net.now goal from here pred → result ≡ Answer.Yes → (depth : ℕ) → IsSafe net.now depth (goals.Auth from here pred) }
 {
     match &net.ipgoals.as_slice()[goal] {
-        IpGoal::Auth { from, at, pred } => answer(net, leasts, *from, *at, pred),
+        IpGoal::Auth { from, at, pred } => answer(net, leasts, passages, *from, *at, pred),
         IpGoal::Conf { .. } => unreachable!(),
     }
 }

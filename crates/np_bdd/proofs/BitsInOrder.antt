@@ -1,10 +1,11 @@
 -- Headers stand in the order of the first bit in which they differ.
 use Rattle.std.proofs.Common.{◌≡◌, ℕ, zero, suc, ◌<◌, true, false, List, [], ◌∷◌, ◌++◌, length, refl, sym, ◌∙◌, ap, arith, nat_cmp, ◌⊎◌, inl, inr}
-use Rattle.std.specs.Prelude.{◌==◌, slice_index_or}
+use Rattle.std.specs.Prelude.{Bool, ◌==◌, slice_index_or}
 use Rattle.std.specs.Cmp.{nat_cmp_is}
 use Rattle.std.specs.Cmp.Lexicographic.{slice_cmp}
 use Rattle.std.specs.Ordering.{ordering_then, is_le}
 use Rattle.std.specs.declared.cmp.Ordering.TheVariants.{Less, Equal}
+use Rattle.std.proofs.lemmas.Bool.{true≢false}
 use Rattle.std.proofs.lemmas.Bool.Decides.{nat_tests}
 use Rattle.std.proofs.lemmas.Cmp.{nat_list_cmp_total, tied_itself}
 use Rattle.std.proofs.lemmas.Nat.Bits.{bit_at-lt}
@@ -12,8 +13,10 @@ use Rattle.np_space.specs.Header.{HasWidths, header_le}
 use Rattle.np_space.specs.Bits.{low_bits, bits_of, header_fields, header_bits}
 use Rattle.np_space.specs.declared.headers.Header.{Header}
 use Rattle.np_space.proofs.BitOrderLaws.{order_by_bits, all_bits}
-use Rattle.np_bdd.specs.Views.{bits_of_header}
+use Rattle.np_space.proofs.OrderLemmas.{le_both_ways}
+use Rattle.np_bdd.specs.Views.{Bits, bits_of_header}
 use Rattle.np_bdd.specs.Walking.{AgreeBelow, IsBefore}
+use Rattle.np_bdd.proofs.WayLemmas.{agree_more, before_on}
 
 -- ---- lists of numbers
 
@@ -82,3 +85,37 @@ pub le_by_bits : (g h : Header) → HasWidths g → HasWidths h → IsBefore 111
 unfolding header_le
 le_by_bits g h v w (inl before) = ap is_le (order_by_bits g h v w ∙ before_less g h before)
 le_by_bits g h v w (inr agree) = ap is_le (order_by_bits g h v w ∙ agree_equal g h agree)
+
+-- ---- the bits of headers in order
+
+-- bits that have the same number at the end, or not
+one_further : (n : ℕ) (f g : Bits) (a b : Bool) → f n ≡ a → g n ≡ b → AgreeBelow n f g → AgreeBelow (suc n) f g ⊎ (IsBefore (suc n) f g ⊎ IsBefore (suc n) g f)
+one_further n f g true true here there agree = inl (agree_more f g n (suc n) refl agree (here ∙ sym there))
+one_further n f g false false here there agree = inl (agree_more f g n (suc n) refl agree (here ∙ sym there))
+one_further n f g false true here there agree = inr (inl (record { place = n; within = omega arith; same = agree; zero_here = here; one_there = there }))
+one_further n f g true false here there agree = inr (inr (record { place = n; within = omega arith; same = λ i l. sym (agree i l); zero_here = there; one_there = here }))
+
+-- bits agree up to the end, or one comes before the other
+either_first : (n : ℕ) (f g : Bits) → AgreeBelow n f g ⊎ (IsBefore n f g ⊎ IsBefore n g f)
+either_first zero f g = inl (λ i l. absurd (omega (arith, l)))
+either_first (suc n) f g = by (either_first n f g)
+  where
+    by : AgreeBelow n f g ⊎ (IsBefore n f g ⊎ IsBefore n g f) → AgreeBelow (suc n) f g ⊎ (IsBefore (suc n) f g ⊎ IsBefore (suc n) g f)
+    by (inl agree) = one_further n f g (f n) (g n) refl refl agree
+    by (inr (inl before)) = inr (inl (before_on f f g n (suc n) (omega arith) (λ i l. refl) before))
+    by (inr (inr after)) = inr (inr (before_on g g f n (suc n) (omega arith) (λ i l. refl) after))
+
+-- the bits of a header that is at most another come before those of the other, or agree
+pub bits_by_le : (g h : Header) → HasWidths g → HasWidths h → header_le g h ≡ true → IsBefore 111 (bits_of_header g) (bits_of_header h) ⊎ AgreeBelow 111 (bits_of_header g) (bits_of_header h)
+bits_by_le g h v w le = by (either_first 111 (bits_of_header g) (bits_of_header h))
+  where
+    never : IsBefore 111 (bits_of_header h) (bits_of_header g) → ⊥
+    never after =
+        let same : g ≡ h = le_both_ways g h le (le_by_bits h g w v (inl after)) in
+        true≢false (sym after.one_there ∙ ap (λ x. bits_of_header x after.place) same ∙ after.zero_here)
+
+    by : AgreeBelow 111 (bits_of_header g) (bits_of_header h) ⊎ (IsBefore 111 (bits_of_header g) (bits_of_header h) ⊎ IsBefore 111 (bits_of_header h) (bits_of_header g))
+        → IsBefore 111 (bits_of_header g) (bits_of_header h) ⊎ AgreeBelow 111 (bits_of_header g) (bits_of_header h)
+    by (inl agree) = inr agree
+    by (inr (inl before)) = inl before
+    by (inr (inr after)) = absurd (never after)

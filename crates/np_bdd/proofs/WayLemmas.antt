@@ -14,7 +14,7 @@ use Rattle.np_bdd.proofs.NodeLaws.{first_view}
 
 -- ---- bits that agree so far
 
-agree_more : (f g : Bits) (n m : ℕ) → m ≡ suc n → AgreeBelow n f g → f n ≡ g n → AgreeBelow m f g
+pub agree_more : (f g : Bits) (n m : ℕ) → m ≡ suc n → AgreeBelow n f g → f n ≡ g n → AgreeBelow m f g
 agree_more f g n m k agree here i l = by (cases_eq i n)
   where
     by : (i ≡ n) ⊎ (i ≢ n) → f i ≡ g i
@@ -22,7 +22,7 @@ agree_more f g n m k agree here i l = by (cases_eq i n)
     by (inr ne) = agree i (omega (arith, l, k, ne))
 
 -- on bits that are 0 in the first, the second agrees or comes after it
-agree_on : (k : ℕ) (f g : Bits) (n m : ℕ) → n + k ≡ m → AgreeBelow n f g → ((i : ℕ) → n ≤ i → i < m → f i ≡ false) → IsBefore m f g ⊎ AgreeBelow m f g
+pub agree_on : (k : ℕ) (f g : Bits) (n m : ℕ) → n + k ≡ m → AgreeBelow n f g → ((i : ℕ) → n ≤ i → i < m → f i ≡ false) → IsBefore m f g ⊎ AgreeBelow m f g
 agree_on zero f g n m e agree clear = inr (λ i l. agree i (omega (arith, e, l)))
 agree_on (suc k) f g n m e agree clear = by (g n) refl (λ same. agree_on k f g (suc n) m (omega (arith, e)) (agree_more f g n (suc n) refl agree same) (λ i below above. clear i (omega (arith, below)) above))
   where
@@ -34,7 +34,7 @@ agree_on (suc k) f g n m e agree clear = by (g n) refl (λ same. agree_on k f g 
     by false none on = on (here ∙ sym none)
 
 -- what comes before stays before, where the later bits change and the end is put off
-before_on : (f g h : Bits) (n m : ℕ) → n ≤ m → AgreeBelow n g f → IsBefore n f h → IsBefore m g h
+pub before_on : (f g h : Bits) (n m : ℕ) → n ≤ m → AgreeBelow n g f → IsBefore n f h → IsBefore m g h
 before_on f g h n m l agree b = record {
   place = b.place;
   within = omega (arith, b.within, l);

@@ -1,6 +1,6 @@
 //! The store of regions.
 
-ghost use Rattle.std.specs.Prelude.{◌≡◌, ◌↔◌, ◌==◌, ◌&&◌, ◌||◌, not, false, [], ◌∷◌, ◌<◌, ℕ, length, IsTrue, IsNone, IfSome, IfOk};
+ghost use Rattle.std.specs.Prelude.{◌≡◌, ◌↔◌, ◌==◌, ◌&&◌, ◌||◌, not, true, false, [], ◌∷◌, ◌+◌, ◌<◌, ℕ, length, IsTrue, IsNone, IfSome, IfOk};
 ghost use Rattle.np_space.specs.Header.{is_valid_header, IsValid, IsLeast, HasWidths};
 ghost use Rattle.np_space.specs.Block.{block_has};
 ghost use Rattle.np_space.specs.declared.headers.Header.{Header};
@@ -8,6 +8,8 @@ ghost use Rattle.np_region.specs.Keeping.{KeepsRegions};
 ghost use Rattle.np_bdd.specs.declared.views.View.TheVariants.{No, Yes};
 ghost use Rattle.np_bdd.specs.Views.{bits_of_header, leads_to_yes, node_has, view_at};
 ghost use Rattle.np_bdd.specs.Diagram.{IsOrdered, IsRegion, KeepsViews};
+ghost use Rattle.np_bdd.specs.Nodes.{KeepsNodes, StartsAt, Chooses};
+ghost use Rattle.np_bdd.specs.Fields.{AlwaysAnswers};
 
 use crate::combining::Operation;
 use crate::nodes::Nodes;
@@ -87,6 +89,44 @@ impl Diagrams {
         ensures leads { (h : Header) → HasWidths h → leads_to_yes self.now (bits_of_header h) x.now.at ≡ ⟦<Diagrams as Regions>⟧.has_header self.now x.now h }
     {
         self.nodes.view(*x)
+    }
+
+    /// The node of `No`. It tests no bit, and no bits lead from it to `Yes`.
+    pub fn no(&self) -> Node
+        ensures { AlwaysAnswers false self.now result.at }
+    {
+        self.nodes.no()
+    }
+
+    /// The node of `Yes`. It tests no bit, and all bits lead from it to `Yes`, those of headers that
+    /// aren't valid among them.
+    pub fn yes(&self) -> Node
+        ensures { AlwaysAnswers true self.now result.at }
+    {
+        self.nodes.yes()
+    }
+
+    /// The node that decides by the bit, from 0 to 110, between two nodes of the store, which test later
+    /// bits alone: `high` decides where the bit is 1, and `low` where it is 0. It is `low` itself where
+    /// the two are the same node.
+    ///
+    /// Its bits may be those of headers that aren't valid. It is a region where no such bits lead from it
+    /// to `Yes`.
+    ///
+    /// # Errors
+    ///
+    /// `AllocError` if there is no memory for one node more.
+    #[tactic(auto, using(crate::proofs::StoreLemmas::regions_kept, crate::proofs::StoreLemmas::valid_kept))]
+    pub fn test(&mut self, bit: u8, low: Node, high: Node) -> Result<Node, AllocError>
+        requires bit { bit < 111 }
+        requires low { StartsAt self.old (1 + bit) low.at }
+        requires high { StartsAt self.old (1 + bit) high.at }
+        ensures kept { KeepsRegions IsRegion node_has self.old self.new }
+        ensures nodes { KeepsNodes self.old self.new }
+        ensures starts { IfOk result (λ z. StartsAt self.new bit z.at) }
+        ensures chooses { IfOk result (λ z. Chooses self.new bit low.at high.at z.at) }
+    {
+        self.nodes.node(bit, low, high)
     }
 
     // The node of the valid headers, which is made when it is first asked for.

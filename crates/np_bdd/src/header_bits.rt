@@ -9,7 +9,7 @@ ghost use Rattle.np_bdd.specs.Walking.{IsWithBit};
 use np_space::Header;
 
 /// Whether the fields of the header are of their widths. Only `dscp` can be too great for its own.
-pub(crate) fn in_widths(h: &Header) -> bool
+pub fn in_widths(h: &Header) -> bool
     ensures { result ≡ has_widths h.now }
 {
     let _src = h.src;
@@ -22,7 +22,7 @@ pub(crate) fn in_widths(h: &Header) -> bool
 
 /// The bit of the header: bit 0 is the highest of `src`, and bit 110 the lowest of `dscp`.
 #[tactic(auto, using(crate::proofs::HeaderBits::header_places))]
-pub(crate) fn header_bit(h: &Header, bit: u8) -> bool
+pub fn header_bit(h: &Header, bit: u8) -> bool
     requires { bit < 111 }
     ensures { result ≡ bits_of_header h.now bit }
 {
@@ -39,7 +39,7 @@ pub(crate) fn header_bit(h: &Header, bit: u8) -> bool
 
 /// The header with the bit set.
 #[tactic(auto, using(crate::proofs::SetBits::field_sets))]
-pub(crate) fn with_bit_set(h: Header, bit: u8) -> Header
+pub fn with_bit_set(h: Header, bit: u8) -> Header
     requires bit { bit < 111 }
     requires widths { HasWidths h }
     ensures { IsWithBit h result bit }

@@ -12,4 +12,5 @@ mod views;
 mod walking;
 
 pub use diagrams::Diagrams;
+pub use header_bits::{header_bit, in_widths, with_bit_set};
 pub use views::{Node, View};

@@ -8,7 +8,7 @@ use crate::networks::{
 use crate::runs::{expect, expect_between, expect_in, expect_report, status};
 use np_bdd::Diagrams;
 use np_outside::MemSink;
-use np_region::Regions;
+use np_atomizer::Atomizer;
 use std::alloc::{AllocError, Global};
 use std::process::Abort;
 use std::test::Fail;
@@ -296,7 +296,7 @@ fn a_deep_predicate(rt: HostRuntime) -> Result<(), Fail> {
 }
 
 /// Runs `check net` over the networks of the reports, all in one store.
-fn expect_in_one_store<R: Threads + Sync + Abort, G: Regions>(
+fn expect_in_one_store<R: Threads + Sync + Abort, G: Atomizer>(
     rt: &R,
     alloc: Global,
     store: &mut G,

@@ -2,8 +2,9 @@
 
 use crate::given::{shelf, words};
 use crate::networks::{applied, filtered};
+use np_atomizer::Atomizer;
 use np_outside::{MemShelf, MemSink};
-use np_region::{BlockLists, Regions};
+use np_region::BlockLists;
 use np_top::{run, run_in};
 use std::alloc::{AllocError, Global};
 use std::process::Abort;
@@ -26,7 +27,7 @@ pub(crate) fn status<R: Threads + Sync>(
 }
 
 /// The same with this store of regions.
-fn status_in<R: Threads + Sync, G: Regions>(
+fn status_in<R: Threads + Sync, G: Atomizer>(
     rt: &R,
     alloc: Global,
     store: &mut G,
@@ -61,7 +62,7 @@ pub(crate) fn expect_over<R: Threads + Sync + Abort>(
 }
 
 /// The same with this store of regions.
-pub(crate) fn expect_in<R: Threads + Sync + Abort, G: Regions>(
+pub(crate) fn expect_in<R: Threads + Sync + Abort, G: Atomizer>(
     rt: &R,
     alloc: Global,
     store: &mut G,

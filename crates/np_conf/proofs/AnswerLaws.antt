@@ -9,10 +9,12 @@ use Rattle.np_pred.specs.declared.predicate.Pred.{Pred}
 use Rattle.np_net.specs.Plan.{Plan}
 use Rattle.np_net.specs.declared.associations.IpGoal.{IpGoal}
 use Rattle.np_net.specs.declared.associations.IpGoal.TheVariants as goals
+use Rattle.np_ipsec.specs.Goals.{IsForeign}
+use Rattle.np_ipsec.specs.Searching.{IsFirst}
 use Rattle.np_ipsec.specs.Steps.{area_at}
 use Rattle.np_ipsec.specs.Trajectories.{IsSafe}
-use Rattle.np_conf.specs.Answers.{AnswersAreUnique, BreaksBare, BreaksByArea, BreaksUnder, IsAnswer, IsAnswerTo, IsFirst, IsFirstBroken, KeepsRules, LetsSomeBare, LetsSomeUnder}
-use Rattle.np_conf.specs.Rules.{ConfRules, IsForeign, LetsOutBare, LetsOutUnder}
+use Rattle.np_conf.specs.Answers.{AnswersAreUnique, BreaksBare, BreaksByArea, BreaksUnder, IsAnswer, IsAnswerTo, IsFirstBroken, KeepsRules, LetsSomeBare, LetsSomeUnder}
+use Rattle.np_conf.specs.Rules.{ConfRules, LetsOutBare, LetsOutUnder}
 use Rattle.np_conf.specs.declared.answers.Answer.{Answer}
 use Rattle.np_conf.specs.declared.answers.Answer.TheVariants.{Yes, No}
 use Rattle.np_conf.specs.declared.answers.Broken.{Broken}

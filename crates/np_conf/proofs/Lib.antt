@@ -1,5 +1,6 @@
 pub mod AnswerLaws
-pub mod LeastLaws
+pub mod NotingLaws
+pub mod OutletLaws
 pub mod RangeLaws
 pub mod SetLaws
 pub mod SoundLaws

@@ -1,5 +1,5 @@
 -- What the answer on a confidentiality goal says: that the local rules hold, or the first that doesn't and where.
-use Rattle.std.specs.Prelude.{◌≡◌, ℕ, ◌<◌, true, false, slice_index_or, MatchOption, Option}
+use Rattle.std.specs.Prelude.{◌≡◌, ℕ, true, false, slice_index_or}
 use Rattle.np_space.specs.Header.{IsLeastOf}
 use Rattle.np_space.specs.declared.headers.Header.{Header}
 use Rattle.np_pred.specs.declared.predicate.Pred.{Pred}
@@ -7,8 +7,10 @@ use Rattle.np_pred.specs.declared.predicate.Pred.TheVariants as predicates
 use Rattle.np_net.specs.Plan.{Plan}
 use Rattle.np_net.specs.declared.associations.IpGoal.{IpGoal}
 use Rattle.np_net.specs.declared.associations.IpGoal.TheVariants as goals
+use Rattle.np_ipsec.specs.Goals.{IsForeign}
+use Rattle.np_ipsec.specs.Searching.{IsFirst}
 use Rattle.np_ipsec.specs.Steps.{area_at}
-use Rattle.np_conf.specs.Rules.{ConfRules, IsForeign, LetsOutBare, LetsOutUnder}
+use Rattle.np_conf.specs.Rules.{ConfRules, LetsOutBare, LetsOutUnder}
 use Rattle.np_conf.specs.declared.answers.Answer.{Answer}
 use Rattle.np_conf.specs.declared.answers.Answer.TheVariants.{Yes, No}
 use Rattle.np_conf.specs.declared.answers.Broken.{Broken}
@@ -24,17 +26,6 @@ ipgoal_at net n = slice_index_or net.ipgoals n (goals.Conf 0 predicates.Nothing)
 abbrev pub IsConf : IpGoal → Type 0
 IsConf (goals.Auth from at pred) = ⊥
 IsConf (goals.Conf from pred) = Unit {0}
-
--- ---- the first place
-
--- the first number of which the statement holds
-pub record IsFirst (P : ℕ → Type 0) (n : ℕ) : Type 0 where
-  pub holds : P n
-  pub first : (k : ℕ) → k < n → P k → ⊥
-
--- what was found is the first such number, and nothing where there is none
-abbrev pub FindsFirst : (ℕ → Type 0) → Option ℕ → Type 0
-FindsFirst P found = MatchOption found ((n : ℕ) → P n → ⊥) (λ n. IsFirst P n)
 
 -- ---- the rules, one after another
 

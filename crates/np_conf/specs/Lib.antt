@@ -1,4 +1,4 @@
 pub mod Rules
-pub mod Cuts
+pub mod Outlets
 pub mod Answers
 pub mod Sets

@@ -8,6 +8,7 @@ use Rattle.np_net.specs.Path.{area_of, device_of}
 use Rattle.np_net.specs.Plan.{Plan}
 use Rattle.np_net.specs.declared.associations.OutAction.TheVariants as outs
 use Rattle.np_net.specs.declared.associations.IpGoal.TheVariants as goals
+use Rattle.np_ipsec.specs.Goals.{IsForeign}
 use Rattle.np_ipsec.specs.Steps.{area_at, area_has}
 use Rattle.np_ipsec.specs.Tables.{is_secret, is_trusted_device, out_action_of}
 use Rattle.np_ipsec.specs.Trajectories.{IsSafe}
@@ -57,12 +58,6 @@ pub record IsReadable (net : Plan) (from : ℕ) (pred : Pred) (k : ℕ) : Type 0
   pub put : ArePutAround net from pred (k ∷ rest)
 
 -- ---- the rules
-
--- an interface is on a trusted area and of a device that isn't trusted (K0)
-pub record IsForeign (net : Plan) (i : ℕ) : Type 0 where
-  pub within : i < length net.interfaces
-  pub inside : (area_at net (area_of net.interfaces i)).trusted ≡ true
-  pub foreign : is_trusted_device net (device_of net.interfaces i) ≡ false
 
 -- an interface of a trusted device on an area that isn't trusted
 pub record IsWayOut (net : Plan) (i : ℕ) : Type 0 where

@@ -1,33 +1,25 @@
 -- The set of the associations under which an own packet may be readable, and the steps that gather it. None of it stands in a public contract.
-use Rattle.std.specs.Prelude.{◌≡◌, ◌⊎◌, ◌↔◌, ℕ, ◌<◌, ◌&&◌, Bool, true, false, List, length, slice_index_or}
+use Rattle.std.specs.Prelude.{◌≡◌, ◌⊎◌, ◌↔◌, ℕ, ◌<◌, ◌&&◌, Bool, true, false, List, length, Option, Some, None, slice_index_or}
 use Rattle.np_space.specs.Header.{zeros}
 use Rattle.np_space.specs.declared.headers.Header.{Header}
 use Rattle.np_pred.specs.Meaning.{pred_holds}
 use Rattle.np_pred.specs.declared.predicate.Pred.{Pred}
 use Rattle.np_net.specs.Plan.{Plan}
-use Rattle.np_net.specs.declared.associations.OutAction.{OutAction}
 use Rattle.np_net.specs.declared.associations.OutAction.TheVariants as outs
+use Rattle.np_atomset.specs.AtomSet.{has_member}
+use Rattle.np_ipsec.specs.Searching.{IsFirstListed}
 use Rattle.np_ipsec.specs.Steps.{area_has}
-use Rattle.np_ipsec.specs.Tables.{is_secret, out_action_of}
-use Rattle.np_ipsec.specs.declared.tables.Top.{Top}
+use Rattle.np_ipsec.specs.Tables.{out_action_of}
 use Rattle.np_ipsec.specs.declared.tables.Top.TheVariants as tops
-use Rattle.np_conf.specs.Rules.{IsFirstAround, IsNextAround, IsReadable, IsTrustedInterface, IsWayOut}
+use Rattle.np_conf.specs.Outlets.{IsAround, PutsBefore, outlet_at}
+use Rattle.np_conf.specs.Rules.{IsFirstAround, IsNextAround, IsReadable, IsWayOut}
+use Rattle.np_conf.specs.declared.leaving.Outlet.{Outlet}
 
 -- ---- tests of headers
 
 -- the header is of the predicate, and has a source of the area
 abbrev pub is_own : Plan → ℕ → Pred → Header → Bool
 is_own net from pred h = pred_holds pred h && area_has net from h
-
--- the packet goes on as it is
-abbrev pub is_bypass : OutAction → Bool
-is_bypass (outs.Protect k) = false
-is_bypass outs.Bypass = true
-is_bypass outs.Discard = false
-
--- an own header goes out bare at the interface
-abbrev pub lets_bare : Plan → ℕ → Pred → ℕ → Header → Bool
-lets_bare net from pred i h = is_own net from pred h && is_bypass (out_action_of net i (tops.Plain h))
 
 -- ---- sets
 
@@ -52,19 +44,7 @@ pub record IsReadableSet (net : Plan) (from : ℕ) (pred : Pred) (set : List Boo
 
 -- ---- what is put around packets
 
--- a trusted device puts an association that hides nothing around packets with this outermost header, at the interface
-pub record PutsAt (net : Plan) (top : Top) (i k : ℕ) : Type 0 where
-  pub at : IsTrustedInterface net i
-  pub open_to_all : is_secret net k ≡ false
-  pub protects : out_action_of net i top ≡ outs.Protect k
-
--- it does so at one of the first n interfaces
-pub record PutsBefore (net : Plan) (top : Top) (n k : ℕ) : Type 0 where
-  pub i : ℕ
-  pub before : i < n
-  pub puts : PutsAt net top i k
-
--- it does so with a bare own packet of this header
+-- a trusted device puts an association that hides nothing around a bare own packet of this header
 pub record PutsOwn (net : Plan) (from : ℕ) (pred : Pred) (h : Header) (k : ℕ) : Type 0 where
   pub own : is_own net from pred h ≡ true
   pub puts : PutsBefore net (tops.Plain h) (length net.interfaces) k
@@ -74,6 +54,11 @@ pub record PutsAround (net : Plan) (from : ℕ) (pred : Pred) (headers : List He
   pub x : ℕ
   pub before : x < n
   pub puts : PutsOwn net from pred (slice_index_or headers x zeros) k
+
+-- the header at a place is one around which one of the first associations is put
+pub record IsAroundBefore (sets : List (Option (List Bool))) (m n k : ℕ) : Type 0 where
+  pub before : k < n
+  pub around : IsAround sets m k
 
 -- While the set is gathered: each in it may be readable, it has all that are put around bare own packets, and all that are put around
 -- packets under those that are done.
@@ -89,6 +74,27 @@ pub record IsLeft (set done : List Bool) (k : ℕ) : Type 0 where
   pub left : has_sa done k ≡ false
 
 -- ---- what goes out
+
+-- the header at a place is in a set, and an own one
+abbrev pub IsOwnIn : List Bool → Plan → ℕ → Pred → List Header → ℕ → Type 0
+IsOwnIn set net from pred headers n = (has_member set n && is_own net from pred (slice_index_or headers n zeros)) ≡ true
+
+-- no own header goes out bare at one of the first outlets
+abbrev pub NoneGoesOut : List Outlet → Plan → ℕ → Pred → List Header → ℕ → Type 0
+NoneGoesOut list net from pred headers end = (m : ℕ) → m < end → (n : ℕ) → n < length headers → IsOwnIn (outlet_at list m).bare net from pred headers n → ⊥
+
+-- the first outlet where an own header goes out bare, with the first such header
+pub record IsFirstOutlet (list : List Outlet) (net : Plan) (from : ℕ) (pred : Pred) (headers : List Header) (i : ℕ) (h : Header) : Type 0 where
+  pub place : ℕ
+  pub within : place < length list
+  pub interface : i ≡ (outlet_at list place).interface
+  pub listed : IsFirstListed (IsOwnIn (outlet_at list place).bare net from pred headers) headers h
+  pub earlier : NoneGoesOut list net from pred headers place
+
+-- it was found, or none of them goes out bare anywhere
+abbrev pub FindsOutlet : List Outlet → Plan → ℕ → Pred → List Header → Option (ℕ × Header) → Type 0
+FindsOutlet list net from pred headers None = NoneGoesOut list net from pred headers (length list)
+FindsOutlet list net from pred headers (Some found) = IsFirstOutlet list net from pred headers found.0 found.1
 
 -- a packet under an association of the set goes out at the interface
 pub record LetsOutListed (net : Plan) (set : List Bool) (i k : ℕ) : Type 0 where

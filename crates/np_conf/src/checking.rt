@@ -1,20 +1,24 @@
 //! The check of a confidentiality goal's local rules.
 
-ghost use Rattle.std.specs.Prelude.{◌≡◌, ◌↔◌, ℕ, ◌^◌, ◌<◌, ◌≤◌, length, IfNone, IfSome};
-ghost use Rattle.std.specs.List.{find};
-ghost use Rattle.np_space.specs.Header.{IsLeastOf};
+ghost use Rattle.std.specs.Prelude.{◌≡◌, ◌↔◌, ℕ, ◌^◌, ◌<◌, ◌≤◌, length, slice_index_or, IfNone, IfSome, IsTrue};
+ghost use Rattle.np_space.specs.Header.{IsLeastOf, zeros};
 ghost use Rattle.np_space.specs.declared.headers.Header.{Header as Head};
-ghost use Rattle.np_conf.specs.Answers.{FindsFirst, IsAnswer, IsAnswerTo, IsConf, IsFirst, KeepsRules, LetsSomeBare, ipgoal_at};
-ghost use Rattle.np_conf.specs.Cuts.{AreLeastsFor, IsPredOfGoal};
-ghost use Rattle.np_conf.specs.Rules.{LetsOutBare};
+ghost use Rattle.np_ipsec.specs.Alike.{AreLeastsFor, KeepsAlike};
+ghost use Rattle.np_ipsec.specs.Searching.{FindsFirst, FindsListed, IsFirst};
 ghost use Rattle.np_ipsec.specs.Tables.{out_action_of};
 ghost use Rattle.np_ipsec.specs.Trajectories.{IsSafe};
-ghost use Rattle.np_conf.specs.Sets.{IsReadableSet, LetsOutListed, LetsSomeListed, is_bypass, lets_bare};
+ghost use Rattle.np_conf.specs.Answers.{IsAnswer, IsAnswerTo, IsConf, KeepsRules, LetsSomeBare, ipgoal_at};
+ghost use Rattle.np_conf.specs.Outlets as outlets;
+ghost use Rattle.np_conf.specs.Outlets.{AreOutlets, is_bypass, outlet_at};
+ghost use Rattle.np_conf.specs.Rules.{LetsOutBare};
+ghost use Rattle.np_conf.specs.Sets.{FindsOutlet, IsOwnIn, LetsOutListed, LetsSomeListed};
 
 use crate::answers::{Answer, Broken};
 use crate::gathering::{is_own, readable_set};
-use crate::ways::{first_foreign, is_way_out};
-use np_ipsec::{Place, Top, is_trusted, out_action};
+use crate::leaving::{Outlet, Outlets};
+use crate::ways::is_way_out;
+use np_atomset::AtomSet;
+use np_ipsec::{Place, Top, first_foreign, is_trusted, out_action};
 use np_net::{AreaId, IfId, IpGoal, Network, OutAction, SaId};
 use np_pred::Pred;
 use np_space::Header;
@@ -27,63 +31,98 @@ fn passes(net: &Network, i: IfId, top: &Top) -> bool
     matches!(out_action(net, i, top), OutAction::Bypass)
 }
 
-/// Whether an own header goes out bare at an interface.
-fn lets_bare(net: &Network, from: AreaId, pred: &Pred, i: IfId, h: &Header) -> bool
-    requires from { from < length net.now.areas }
-    requires place { i < length net.now.interfaces }
-    ensures { result ≡ lets_bare net.now from pred.now i h.now }
+/// The outlet at a place of the list.
+fn outlet_at(list: &[Outlet], n: usize) -> &Outlet
+    requires { n < length list.now }
+    ensures { result.now ≡ outlet_at list.now n }
 {
-    is_own(net, from, pred, h) && passes(net, i, &Top::Plain(*h))
+    &list[n]
 }
 
-/// The first of the headers that goes out bare at an interface, an own one.
-fn first_bare(
+/// The header at a place of the list.
+fn header_at(headers: &[Header], n: usize) -> Header
+    requires { n < length headers.now }
+    ensures { result ≡ slice_index_or headers.now n zeros }
+{
+    headers[n]
+}
+
+/// Whether the header at a place is in the set, and an own one.
+fn is_own_in(
+    bare: &AtomSet,
     net: &Network,
-    leasts: &[Header],
     from: AreaId,
     pred: &Pred,
-    i: IfId,
-) -> Option<Header>
+    leasts: &[Header],
+    n: usize,
+) -> bool
     requires from { from < length net.now.areas }
-    requires place { i < length net.now.interfaces }
-    ensures { result ≡ find (lets_bare net.now from pred.now i) leasts.now }
+    requires place { n < length leasts.now }
+    requires size { length bare.now ≡ length leasts.now }
+    ensures { IsTrue result ↔ IsOwnIn bare.now net.now from pred.now leasts.now n }
 {
-    leasts
-        .iter()
-        .copied()
-        .find(|h| lets_bare(net, from, pred, i, h))
+    bare.has(n) && is_own(net, from, pred, &header_at(leasts, n))
 }
 
-/// The least header that goes out bare at an interface.
-fn bare_at(net: &Network, leasts: &[Header], from: AreaId, pred: &Pred, i: IfId) -> Option<Header>
+/// The first header of the set that is an own one.
+fn first_bare(
+    bare: &AtomSet,
+    net: &Network,
+    from: AreaId,
+    pred: &Pred,
+    leasts: &[Header],
+) -> Option<Header>
     requires from { from < length net.now.areas }
-    requires goal { IsPredOfGoal net.now pred.now }
-    requires leasts { AreLeastsFor net.now leasts.now }
-    requires place { i < length net.now.interfaces }
-    ensures none { IfNone result ((h : Head) → LetsOutBare net.now from pred.now i h → ⊥) }
-    ensures some { IfSome result (λ h. IsLeastOf (LetsOutBare net.now from pred.now i) h) }
+    requires size { length bare.now ≡ length leasts.now }
+    ensures { FindsListed (IsOwnIn bare.now net.now from pred.now leasts.now) leasts.now result }
 {
-    if !is_way_out(net, i) {
-        return None;
+    let start = bare.first()?;
+    for n in start..leasts.len() {
+        if is_own_in(bare, net, from, pred, leasts, n) {
+            return Some(header_at(leasts, n));
+        }
     }
-    first_bare(net, leasts, from, pred, i)
+    None
+}
+
+/// The first of the outlets where an own header goes out bare, and the first such header there.
+fn first_outlet(
+    list: &[Outlet],
+    net: &Network,
+    from: AreaId,
+    pred: &Pred,
+    leasts: &[Header],
+) -> Option<(IfId, Header)>
+    requires from { from < length net.now.areas }
+    requires sizes { (m : ℕ) → m < length list.now → length (outlets.outlet_at list.now m).bare ≡ length leasts.now }
+    ensures { FindsOutlet list.now net.now from pred.now leasts.now result }
+{
+    for m in 0..list.len() {
+        let outlet = outlet_at(list, m);
+        if let Some(h) = first_bare(&outlet.bare, net, from, pred, leasts) {
+            return Some((outlet.interface, h));
+        }
+    }
+    None
 }
 
 /// The first interface where a bare own packet goes out, and the least header there.
-fn bare(net: &Network, leasts: &[Header], from: AreaId, pred: &Pred) -> Option<(IfId, Header)>
+fn bare(
+    net: &Network,
+    leasts: &[Header],
+    outlets: &Outlets,
+    from: AreaId,
+    pred: &Pred,
+) -> Option<(IfId, Header)>
     requires from { from < length net.now.areas }
-    requires goal { IsPredOfGoal net.now pred.now }
+    requires goal { KeepsAlike net.now pred.now }
     requires leasts { AreLeastsFor net.now leasts.now }
+    requires outlets { AreOutlets net.now leasts.now outlets.now }
     ensures none { IfNone result ((i : ℕ) (h : Head) → LetsOutBare net.now from pred.now i h → ⊥) }
     ensures first { IfSome result (λ found. IsFirst (LetsSomeBare net.now from pred.now) found.0) }
     ensures least { IfSome result (λ found. IsLeastOf (LetsOutBare net.now from pred.now found.0) found.1) }
 {
-    for i in 0..net.interfaces.len() {
-        if let Some(h) = bare_at(net, leasts, from, pred, i as IfId) {
-            return Some((i as IfId, h));
-        }
-    }
-    None
+    first_outlet(outlets.ways.as_slice(), net, from, pred, leasts)
 }
 
 /// The first association of the set under which a packet goes out at an interface.
@@ -119,10 +158,11 @@ fn under(net: &Network, set: &[bool]) -> Option<(IfId, SaId)>
 }
 
 /// The answer for packets of a predicate from an area.
-fn check(net: &Network, leasts: &[Header], from: AreaId, pred: &Pred) -> Answer
+fn check(net: &Network, leasts: &[Header], outlets: &Outlets, from: AreaId, pred: &Pred) -> Answer
     requires from { from < length net.now.areas }
-    requires goal { IsPredOfGoal net.now pred.now }
+    requires goal { KeepsAlike net.now pred.now }
     requires leasts { AreLeastsFor net.now leasts.now }
+    requires outlets { AreOutlets net.now leasts.now outlets.now }
     ensures { IsAnswer net.now from pred.now result }
 {
     if !is_trusted(net, Place::AtArea(from)) {
@@ -131,10 +171,10 @@ fn check(net: &Network, leasts: &[Header], from: AreaId, pred: &Pred) -> Answer
     if let Some(i) = first_foreign(net) {
         return Answer::No(Broken::K0Interface(i));
     }
-    if let Some((i, h)) = bare(net, leasts, from, pred) {
+    if let Some((i, h)) = bare(net, leasts, outlets, from, pred) {
         return Answer::No(Broken::K1(i, h));
     }
-    match under(net, &readable_set(net, leasts, from, pred)) {
+    match under(net, &readable_set(net, leasts, outlets, from, pred)) {
         Some((i, k)) => Answer::No(Broken::K2(i, k)),
         None => Answer::Yes,
     }
@@ -143,19 +183,21 @@ fn check(net: &Network, leasts: &[Header], from: AreaId, pred: &Pred) -> Answer
 /// Whether the local rules of a confidentiality goal hold, and else the first that doesn't, with its first place. Where they hold,
 /// no trajectory of any depth breaks the goal.
 ///
-/// The rules ask of headers only what the network's outward rules, goals and areas tell apart, so the least headers of the classes
-/// of such tests answer for all. Takes no memory.
+/// `goal` is the number, from 0, of a confidentiality goal of the network. `leasts` has the least header of each class of those
+/// that no rule, no goal and no area tells apart, and `outlets` are the network's, of these headers: so no rule is asked about a
+/// bare packet again. Takes no memory.
 #[tactic(auto, using(crate::proofs::AnswerLaws::yes_exactly))]
-pub fn check_conf(net: &Network, leasts: &[Header], goal: usize) -> Answer
+pub fn check_conf(net: &Network, leasts: &[Header], outlets: &Outlets, goal: usize) -> Answer
     requires goal { goal < length net.now.ipgoals }
     requires conf { IsConf (ipgoal_at net.now goal) }
     requires leasts { AreLeastsFor net.now leasts.now }
+    requires outlets { AreOutlets net.now leasts.now outlets.now }
     ensures answer { IsAnswerTo net.now (ipgoal_at net.now goal) result }
     ensures yes { (result ≡ Answer.Yes) ↔ KeepsRules net.now (ipgoal_at net.now goal) }
     ensures safe { result ≡ Answer.Yes → (depth : ℕ) → IsSafe net.now depth (ipgoal_at net.now goal) }
 {
     match &net.ipgoals.as_slice()[goal] {
-        IpGoal::Conf { from, pred } => check(net, leasts, *from, pred),
+        IpGoal::Conf { from, pred } => check(net, leasts, outlets, *from, pred),
         IpGoal::Auth { .. } => unreachable!(),
     }
 }

@@ -1,13 +1,17 @@
 //! The associations under which an own packet may be readable: those that hide nothing and that trusted devices put around bare
 //! own packets, and around packets under one of them.
 
-ghost use Rattle.std.specs.Prelude.{◌≡◌, ℕ, ◌^◌, ◌<◌, ◌≤◌, length, IfNone, IfSome};
+ghost use Rattle.std.specs.Prelude.{◌≡◌, ◌↔◌, ℕ, ◌^◌, ◌<◌, ◌≤◌, None, length, slice_index_or, IfNone, IfSome, IsTrue};
+ghost use Rattle.np_space.specs.Header.{zeros};
 ghost use Rattle.np_net.specs.declared.associations.OutAction.TheVariants as outs;
+ghost use Rattle.np_ipsec.specs.Alike.{AreLeastsFor, KeepsAlike};
 ghost use Rattle.np_ipsec.specs.Tables.{out_action_of};
-ghost use Rattle.np_conf.specs.Cuts.{AreLeastsFor, IsPredOfGoal};
-ghost use Rattle.np_conf.specs.Sets.{Adds, IsEmpty, IsLeft, IsReadableSet, PutsAround, PutsAt, PutsBefore, PutsOwn, is_own};
+ghost use Rattle.np_conf.specs.Outlets.{AreOutlets, IsAround, PutsAt, PutsBefore};
+ghost use Rattle.np_conf.specs.Sets.{Adds, IsAroundBefore, IsEmpty, IsLeft, IsReadableSet, PutsAround, PutsOwn, is_own};
 
+use crate::leaving::Outlets;
 use crate::ways::is_of_trusted;
+use np_atomset::AtomSet;
 use np_ipsec::{Top, has_source, out_action, secret};
 use np_net::{AreaId, DECLARATION_LIMIT, IfId, Network, OutAction, SaId};
 use np_pred::Pred;
@@ -21,17 +25,37 @@ pub(crate) fn is_own(net: &Network, from: AreaId, pred: &Pred, h: &Header) -> bo
     pred.holds(h) && has_source(net, from, h)
 }
 
-/// The association that an interface's rules put around packets with this outermost header.
-fn protection(net: &Network, i: IfId, top: &Top) -> Option<SaId>
-    requires { i < length net.now.interfaces }
-    ensures none { IfNone result ((k : ℕ) → out_action_of net.now i top.now ≡ outs.Protect k → ⊥) }
-    ensures some { IfSome result (λ k. out_action_of net.now i top.now ≡ outs.Protect k) }
+/// The association, if any, of an outward action of a network.
+fn protection(net: &Network, i: IfId, top: &Top, action: OutAction) -> Option<SaId>
+    requires interface { i < length net.now.interfaces }
+    requires action { action ≡ out_action_of net.now i top.now }
+    ensures none { IfNone result ((k : ℕ) → action ≡ outs.Protect k → ⊥) }
+    ensures some { IfSome result (λ k. action ≡ outs.Protect k) }
     ensures within { IfSome result (λ k. k < length net.now.sas) }
 {
+    // What is known of every network says that its rules name associations that there are.
     let _ = &net.sas;
-    match out_action(net, i, top) {
+    match action {
         OutAction::Protect(k) => Some(k),
         OutAction::Bypass | OutAction::Discard => None,
+    }
+}
+
+/// The association that hides nothing and that a trusted device puts around packets with this outermost header, at an interface
+/// whose rules say this of them.
+pub(crate) fn put_by(net: &Network, i: IfId, top: &Top, action: OutAction) -> Option<SaId>
+    requires interface { i < length net.now.interfaces }
+    requires action { action ≡ out_action_of net.now i top.now }
+    ensures none { IfNone result ((k : ℕ) → PutsAt net.now top.now i k → ⊥) }
+    ensures some { IfSome result (λ k. PutsAt net.now top.now i k) }
+    ensures within { IfSome result (λ k. k < length net.now.sas) }
+{
+    if !is_of_trusted(net, i) {
+        return None;
+    }
+    match protection(net, i, top, action) {
+        Some(k) if !secret(net, k) => Some(k),
+        _ => None,
     }
 }
 
@@ -42,13 +66,7 @@ fn put_at(net: &Network, i: IfId, top: &Top) -> Option<SaId>
     ensures some { IfSome result (λ k. PutsAt net.now top.now i k) }
     ensures within { IfSome result (λ k. k < length net.now.sas) }
 {
-    if !is_of_trusted(net, i) {
-        return None;
-    }
-    match protection(net, i, top) {
-        Some(k) if !secret(net, k) => Some(k),
-        _ => None,
-    }
+    put_by(net, i, top, out_action(net, i, top))
 }
 
 /// Adds the one that is put around packets with this outermost header at an interface.
@@ -73,26 +91,70 @@ fn add_all(net: &Network, top: &Top, set: &mut [bool])
     }
 }
 
-/// Adds those that are put around bare packets with this header, if it is an own one.
-fn add_own(net: &Network, from: AreaId, pred: &Pred, h: &Header, set: &mut [bool])
-    requires from { from < length net.now.areas }
-    requires room { length net.now.sas ≤ length set.old }
-    ensures { Adds (PutsOwn net.now from pred.now h.now) set.old set.new }
+/// Whether the header at a place is one around which an association is put.
+fn is_around(around: &[Option<AtomSet>], k: usize, n: usize) -> bool
+    requires association { k < length around.now }
+    requires sizes { IfSome (slice_index_or around.now k None) (λ set. n < length set) }
+    ensures { IsTrue result ↔ IsAround around.now n k }
 {
-    if is_own(net, from, pred, h) {
-        add_all(net, &Top::Plain(*h), set);
+    match &around[k] {
+        Some(set) => set.has(n),
+        None => false,
+    }
+}
+
+/// Adds the associations that are put around packets with the header at a place.
+#[tactic(auto, using(crate::proofs::SetLaws::added_next, crate::proofs::SetLaws::added_not))]
+fn add_around(around: &[Option<AtomSet>], n: usize, set: &mut [bool])
+    requires sizes { (k : ℕ) → IfSome (slice_index_or around.now k None) (λ set. n < length set) }
+    requires room { length around.now ≤ length set.old }
+    ensures { Adds (IsAroundBefore around.now n (length around.now)) set.old set.new }
+{
+    for k in 0..around.len() {
+        if is_around(around, k, n) {
+            set[k] = true;
+        }
+    }
+}
+
+/// Adds those that are put around bare packets with the header at a place, if it is an own one.
+fn add_own(
+    net: &Network,
+    leasts: &[Header],
+    outlets: &Outlets,
+    from: AreaId,
+    pred: &Pred,
+    n: usize,
+    set: &mut [bool],
+)
+    requires from { from < length net.now.areas }
+    requires outlets { AreOutlets net.now leasts.now outlets.now }
+    requires header { n < length leasts.now }
+    requires room { length net.now.sas ≤ length set.old }
+    ensures { Adds (PutsOwn net.now from pred.now (slice_index_or leasts.now n zeros)) set.old set.new }
+{
+    if is_own(net, from, pred, &leasts[n]) {
+        add_around(outlets.around.as_slice(), n, set);
     }
 }
 
 /// Adds those that are put around bare packets with one of these headers, an own one.
-#[tactic(auto, using(crate::proofs::SetLaws::added_around))]
-fn add_firsts(net: &Network, leasts: &[Header], from: AreaId, pred: &Pred, set: &mut [bool])
+#[tactic(auto, using(crate::proofs::SetLaws::added_header))]
+fn add_firsts(
+    net: &Network,
+    leasts: &[Header],
+    outlets: &Outlets,
+    from: AreaId,
+    pred: &Pred,
+    set: &mut [bool],
+)
     requires from { from < length net.now.areas }
+    requires outlets { AreOutlets net.now leasts.now outlets.now }
     requires room { length net.now.sas ≤ length set.old }
     ensures { Adds (PutsAround net.now from pred.now leasts.now (length leasts.now)) set.old set.new }
 {
-    for h in leasts {
-        add_own(net, from, pred, h, set);
+    for n in 0..leasts.len() {
+        add_own(net, leasts, outlets, from, pred, n, set);
     }
 }
 
@@ -117,14 +179,16 @@ fn next_left(set: &[bool], done: &[bool]) -> Option<SaId>
 fn gather(
     net: &Network,
     leasts: &[Header],
+    outlets: &Outlets,
     from: AreaId,
     pred: &Pred,
     set: &mut [bool],
     done: &mut [bool],
 )
     requires from { from < length net.now.areas }
-    requires goal { IsPredOfGoal net.now pred.now }
+    requires goal { KeepsAlike net.now pred.now }
     requires leasts { AreLeastsFor net.now leasts.now }
+    requires outlets { AreOutlets net.now leasts.now outlets.now }
     requires room { length net.now.sas ≤ length set.old }
     requires same { length set.old ≡ length done.old }
     requires few { length set.old ≤ 2 ^ 16 }
@@ -132,7 +196,7 @@ fn gather(
     requires no_done { IsEmpty done.old }
     ensures { IsReadableSet net.now from pred.now set.new }
 {
-    add_firsts(net, leasts, from, pred, set);
+    add_firsts(net, leasts, outlets, from, pred, set);
     'adding: while let Some(k) = next_left(set, done) {
         done[k as usize] = true;
         add_all(net, &Top::Under(k), set);
@@ -150,17 +214,19 @@ fn empty_set() -> [bool; DECLARATION_LIMIT]
 pub(crate) fn readable_set(
     net: &Network,
     leasts: &[Header],
+    outlets: &Outlets,
     from: AreaId,
     pred: &Pred,
 ) -> [bool; DECLARATION_LIMIT]
     requires from { from < length net.now.areas }
-    requires goal { IsPredOfGoal net.now pred.now }
+    requires goal { KeepsAlike net.now pred.now }
     requires leasts { AreLeastsFor net.now leasts.now }
+    requires outlets { AreOutlets net.now leasts.now outlets.now }
     ensures { IsReadableSet net.now from pred.now result }
 {
     let _ = &net.sas;
     let mut set = empty_set();
     let mut done = empty_set();
-    gather(net, leasts, from, pred, &mut set, &mut done);
+    gather(net, leasts, outlets, from, pred, &mut set, &mut done);
     set
 }

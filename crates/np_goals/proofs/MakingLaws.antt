@@ -12,9 +12,9 @@ use Rattle.np_acl.specs.Entries.{list_permits}
 use Rattle.np_pred.specs.Meaning.{pred_holds}
 use Rattle.np_atomset.specs.AtomSet.{has_member, without}
 use Rattle.np_atomset.proofs.Sets.{has_member-all, has_member-without, length-combine}
-use Rattle.np_atomizer.specs.Atoms.{AreAtoms, leasts_of}
-use Rattle.np_atomizer.specs.declared.atom_list.Atom.{Atom}
-use Rattle.np_atomizer.proofs.AtomLaws.{sets_counted, answer_said}
+use Rattle.np_atoms.specs.Atoms.{AreAtoms}
+use Rattle.np_atoms.specs.declared.Atoms.{Atoms}
+use Rattle.np_atoms.proofs.AtomLaws.{sets_counted, answer_said}
 use Rattle.np_net.specs.declared.filtering.Goal.{Goal}
 use Rattle.np_net.specs.declared.filtering.Interface.{Interface}
 use Rattle.np_cut.specs.AppliedLists.{AppliedLists, IsApplied, applied_lets, place_at, list_at}
@@ -110,91 +110,86 @@ forbidden_has sets n cut atom false says long within is = is
 
 -- ---- the case
 
-module _ {S R : Type 0} (fits : S → R → Type 0) (has : S → R → Header → Bool) (s : S) (goals : List Goal) (applied : AppliedLists) (atoms : List (Atom R)) (sets : List (List Bool)) (are : AreAtoms fits has s (filter_tests applied.lists goals) atoms sets) where
+module _ (goals : List Goal) (applied : AppliedLists) (atoms : Atoms) (are : AreAtoms (filter_tests applied.lists goals) atoms) where
   -- there is a set for each list and each goal
-  pub sets_number : length sets ≡ length applied.lists + length goals
-  sets_number = (sets_counted fits has s (filter_tests applied.lists goals) atoms sets are).0 ∙ tests_counted applied.lists goals
+  pub sets_number : length atoms.cuts ≡ length applied.lists + length goals
+  sets_number = (sets_counted (filter_tests applied.lists goals) atoms are).0 ∙ tests_counted applied.lists goals
 
   -- and in each the same atoms
-  pub sets_long : AllHaveLength (length atoms) sets
-  sets_long = (sets_counted fits has s (filter_tests applied.lists goals) atoms sets are).1
+  pub sets_long : AllHaveLength (length atoms.leasts) atoms.cuts
+  sets_long = (sets_counted (filter_tests applied.lists goals) atoms are).1
 
   -- each place has a set
-  pub places_have : IsApplied applied → (slot : ℕ) → IfSome (place_at applied slot) (λ p. p < length sets)
+  pub places_have : IsApplied applied → (slot : ℕ) → IfSome (place_at applied slot) (λ p. p < length atoms.cuts)
   places_have is slot = by (place_at applied slot) (is.places slot)
     where
-      by : (place : Option ℕ) → IfSome place (λ p. p < length applied.lists) → IfSome place (λ p. p < length sets)
+      by : (place : Option ℕ) → IfSome place (λ p. p < length applied.lists) → IfSome place (λ p. p < length atoms.cuts)
       by None below = below
       by (Some p) below = omega (arith, sets_number, below)
 
   -- the least members are valid
-  least_valid : (atom : ℕ) → atom < length (leasts_of atoms) → is_valid_header (get_or (leasts_of atoms) atom zeros) ≡ true
+  least_valid : (atom : ℕ) → atom < length atoms.leasts → is_valid_header (get_or atoms.leasts atom zeros) ≡ true
   least_valid atom within = (are.leasts.each atom zeros within).valid
 
-  -- as many least members as atoms
-  leasts_number : length (leasts_of atoms) ≡ length atoms
-  leasts_number = length-map atoms (λ (a : Atom R). a.least)
-
   -- a cut's set has an atom where its test has the least member
-  cut_says : (cut atom : ℕ) → atom < length (leasts_of atoms) → cut < length sets → has_member (get_or sets cut []) atom ≡ get_or (filter_tests applied.lists goals) cut (λ h. false) (get_or (leasts_of atoms) atom zeros)
+  cut_says : (cut atom : ℕ) → atom < length atoms.leasts → cut < length atoms.cuts → has_member (get_or atoms.cuts cut []) atom ≡ get_or (filter_tests applied.lists goals) cut (λ h. false) (get_or atoms.leasts atom zeros)
   cut_says cut atom within below =
-      answer_said fits has s (filter_tests applied.lists goals) atoms sets atom cut zeros (λ h. false) are (omega (arith, leasts_number)) (omega (arith, sets_number, tests_counted applied.lists goals))
+      answer_said (filter_tests applied.lists goals) atoms atom cut zeros (λ h. false) are within (omega (arith, sets_number, tests_counted applied.lists goals))
 
   -- what crosses by a place is what its list lets cross
-  crossing_says : (place : Option ℕ) (atom : ℕ) → IfSome place (λ p. p < length applied.lists) → atom < length (leasts_of atoms) → has_member (crossing_set sets (length atoms) place) atom ≡ option_map_or (λ p. list_permits (list_at applied p) (get_or (leasts_of atoms) atom zeros)) place true
-  crossing_says None atom below within = has_member-all (length atoms) atom (omega (arith, leasts_number))
+  crossing_says : (place : Option ℕ) (atom : ℕ) → IfSome place (λ p. p < length applied.lists) → atom < length atoms.leasts → has_member (crossing_set atoms.cuts (length atoms.leasts) place) atom ≡ option_map_or (λ p. list_permits (list_at applied p) (get_or atoms.leasts atom zeros)) place true
+  crossing_says None atom below within = has_member-all (length atoms.leasts) atom within
   crossing_says (Some p) atom below within =
-      let h = get_or (leasts_of atoms) atom zeros in
+      let h = get_or atoms.leasts atom zeros in
       cut_says p atom within (omega (arith, sets_number, below))
       ∙ ap (λ f. f h) (list_cut applied.lists goals p (λ h. false) below)
       ∙ valid_beside (is_valid_header h) (list_permits (list_at applied p) h) (least_valid atom within)
 
   -- a goal's cut has an atom where its predicate holds
-  goal_says : (k : ℕ) (d : Goal) (atom : ℕ) → k < length goals → atom < length (leasts_of atoms) → has_member (get_or sets (length applied.lists + k) []) atom ≡ pred_holds (goal_at goals d k).pred (get_or (leasts_of atoms) atom zeros)
+  goal_says : (k : ℕ) (d : Goal) (atom : ℕ) → k < length goals → atom < length atoms.leasts → has_member (get_or atoms.cuts (length applied.lists + k) []) atom ≡ pred_holds (goal_at goals d k).pred (get_or atoms.leasts atom zeros)
   goal_says k d atom below within =
-      let h = get_or (leasts_of atoms) atom zeros in
+      let h = get_or atoms.leasts atom zeros in
       cut_says (length applied.lists + k) atom within (omega (arith, sets_number))
       ∙ ap (λ f. f h) (goal_cut applied.lists goals k d (λ h. false) below)
       ∙ valid_beside (is_valid_header h) (pred_holds (goal_at goals d k).pred h) (least_valid atom within)
 
-  module _ (interfaces : List Interface) (is : IsApplied applied) (two_each : length applied.at ≡ 2 * length interfaces) (bad : List (List Bool)) (forbidden : AreForbidden sets (length atoms) (length applied.lists) goals (length goals) bad) where
+  module _ (interfaces : List Interface) (is : IsApplied applied) (two_each : length applied.at ≡ 2 * length interfaces) (bad : List (List Bool)) (forbidden : AreForbidden atoms.cuts (length atoms.leasts) (length applied.lists) goals (length goals) bad) where
     -- the sets of the slots
     abbrev slots : List (List Bool)
-    slots = map (crossing_set sets (length atoms)) applied.at
+    slots = map (crossing_set atoms.cuts (length atoms.leasts)) applied.at
 
     -- the set of one
-    slot_set : (slot : ℕ) → slot < length applied.at → get_or slots slot [] ≡ crossing_set sets (length atoms) (place_at applied slot)
-    slot_set slot below = get_or-map (crossing_set sets (length atoms)) applied.at slot None [] below
+    slot_set : (slot : ℕ) → slot < length applied.at → get_or slots slot [] ≡ crossing_set atoms.cuts (length atoms.leasts) (place_at applied slot)
+    slot_set slot below = get_or-map (crossing_set atoms.cuts (length atoms.leasts)) applied.at slot None [] below
 
     -- each is a set of the atoms
-    slot_long : (slot : ℕ) → slot < length applied.at → length (get_or slots slot []) ≡ length (leasts_of atoms)
+    slot_long : (slot : ℕ) → slot < length applied.at → length (get_or slots slot []) ≡ length atoms.leasts
     slot_long slot below =
-        ap length (slot_set slot below) ∙ crossing_length sets (length atoms) (place_at applied slot) sets_long (places_have is slot) ∙ sym leasts_number
+        ap length (slot_set slot below) ∙ crossing_length atoms.cuts (length atoms.leasts) (place_at applied slot) sets_long (places_have is slot)
 
     -- the cut of a goal is a set of the atoms
-    goal_cut_long : (k : ℕ) → k < length goals → length (get_or sets (length applied.lists + k) []) ≡ length atoms
+    goal_cut_long : (k : ℕ) → k < length goals → length (get_or atoms.cuts (length applied.lists + k) []) ≡ length atoms.leasts
     goal_cut_long k below = sets_long (length applied.lists + k) (omega (arith, sets_number))
 
     -- and so is what the goal forbids
-    bad_long : (k : ℕ) (d : Goal) → k < length goals → length (get_or bad k []) ≡ length (leasts_of atoms)
+    bad_long : (k : ℕ) (d : Goal) → k < length goals → length (get_or bad k []) ≡ length atoms.leasts
     bad_long k d below =
         ap length (forbidden.each k d below)
-        ∙ forbidden_length sets (length atoms) (length applied.lists + k) (goal_at goals d k).only (goal_cut_long k below)
-        ∙ sym leasts_number
+        ∙ forbidden_length atoms.cuts (length atoms.leasts) (length applied.lists + k) (goal_at goals d k).only (goal_cut_long k below)
 
     -- a slot's set has an atom where its least member crosses
-    slot_says : (slot atom : ℕ) → slot < length applied.at → atom < length (leasts_of atoms) → lets_atom slots atom slot ≡ applied_lets applied slot (get_or (leasts_of atoms) atom zeros)
+    slot_says : (slot atom : ℕ) → slot < length applied.at → atom < length atoms.leasts → lets_atom slots atom slot ≡ applied_lets applied slot (get_or atoms.leasts atom zeros)
     slot_says slot atom below within =
         ap (λ set. has_member set atom) (slot_set slot below) ∙ crossing_says (place_at applied slot) atom (is.places slot) within
 
     -- a goal's set has an atom where the goal forbids its least member
-    bad_says : (k atom : ℕ) (d : Goal) → k < length goals → atom < length (leasts_of atoms) → has_member (get_or bad k []) atom ≡ forbids (goal_at goals d k) (get_or (leasts_of atoms) atom zeros)
+    bad_says : (k atom : ℕ) (d : Goal) → k < length goals → atom < length atoms.leasts → has_member (get_or bad k []) atom ≡ forbids (goal_at goals d k) (get_or atoms.leasts atom zeros)
     bad_says k atom d below within =
         ap (λ set. has_member set atom) (forbidden.each k d below)
-        ∙ forbidden_has sets (length atoms) (length applied.lists + k) atom (goal_at goals d k).only (pred_holds (goal_at goals d k).pred (get_or (leasts_of atoms) atom zeros)) (goal_cut_long k below) (omega (arith, leasts_number)) (goal_says k d atom below within)
+        ∙ forbidden_has atoms.cuts (length atoms.leasts) (length applied.lists + k) atom (goal_at goals d k).only (pred_holds (goal_at goals d k).pred (get_or atoms.leasts atom zeros)) (goal_cut_long k below) within (goal_says k d atom below within)
 
     -- so it is the case of these lists
-    pub case_is : (case : Case) → case.posture.slots ≡ map (crossing_set sets (length atoms)) applied.at → case.bad ≡ bad → case.leasts ≡ leasts_of atoms → IsCaseOf interfaces goals applied case
+    pub case_is : (case : Case) → case.posture.slots ≡ map (crossing_set atoms.cuts (length atoms.leasts)) applied.at → case.bad ≡ bad → case.leasts ≡ atoms.leasts → IsCaseOf interfaces goals applied case
     case_is case slots_are bad_are leasts_are =
         record {
           sizes = record {
@@ -209,4 +204,4 @@ module _ {S R : Type 0} (fits : S → R → Type 0) (has : S → R → Header �
         }
       where
         slots_number : length slots ≡ length applied.at
-        slots_number = length-map applied.at (crossing_set sets (length atoms))
+        slots_number = length-map applied.at (crossing_set atoms.cuts (length atoms.leasts))

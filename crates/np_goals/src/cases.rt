@@ -1,18 +1,17 @@
 //! What crosses the slots and what the goals forbid, atom by atom.
 
 ghost use Rattle.std.specs.Prelude.{◌≡◌, ◌+◌, ◌*◌, ◌-◌, ◌<◌, ◌≤◌, ℕ, None, [], length, map, slice_index_or, IfOk, IfSome};
-ghost use Rattle.np_atomizer.specs.Atoms.{atoms_in, sets_in, AreAtoms};
+ghost use Rattle.np_atoms.specs.Atoms.{AreAtoms};
 ghost use Rattle.np_cut.specs.FilterCuts.{filter_tests};
 ghost use Rattle.np_flow.specs.Postures.{AllHaveLength};
 ghost use Rattle.np_goals.specs.Cases.{IsCaseOf};
 ghost use Rattle.np_goals.specs.Making.{crossing_set, forbidden_set, AreForbidden};
 
-use np_atomizer::Atoms;
+use np_atoms::Atoms;
 use np_atomset::AtomSet;
 use np_cut::Applied;
 use np_flow::Posture;
 use np_net::{Goal, Network};
-use np_region::Regions;
 use np_space::Header;
 use sqlite_items::Items;
 use std::alloc::{AllocError, Global};
@@ -28,90 +27,96 @@ pub struct Case {
     pub leasts: Items<Header>,
 }
 
-/// The atoms that cross a slot whose list is at this place. Without a list every atom does.
-fn crossing<R: Drop>(
+/// Of so many atoms those that cross a slot whose list is at this place among the cuts. Without a list every atom does.
+fn crossing(
     alloc: Global,
-    atoms: &Atoms<R>,
+    cuts: &[AtomSet],
+    atoms: usize,
     place: Option<usize>,
 ) -> Result<AtomSet, AllocError>
-    requires { IfSome place (λ p. p < length (sets_in atoms.now)) }
-    ensures { IfOk result (λ set. set ≡ crossing_set (sets_in atoms.now) (length (atoms_in atoms.now)) place) }
+    requires { IfSome place (λ p. p < length cuts.now) }
+    ensures { IfOk result (λ set. set ≡ crossing_set cuts.now atoms place) }
 {
     match place {
-        Some(place) => atoms.cut(place).copy(alloc),
-        None => AtomSet::full(alloc, atoms.len()),
+        Some(place) => cuts[place].copy(alloc),
+        None => AtomSet::full(alloc, atoms),
     }
 }
 
 /// The atoms that cross each slot, by the places of the slots' lists.
-fn crossings<R: Drop>(
+fn crossings(
     alloc: Global,
-    atoms: &Atoms<R>,
+    cuts: &[AtomSet],
+    atoms: usize,
     places: &[Option<usize>],
 ) -> Result<Items<AtomSet>, AllocError>
-    requires { (slot : ℕ) → IfSome (slice_index_or places.now slot None) (λ p. p < length (sets_in atoms.now)) }
-    ensures { IfOk result (λ slots. slots ≡ map (crossing_set (sets_in atoms.now) (length (atoms_in atoms.now))) places.now) }
+    requires { (slot : ℕ) → IfSome (slice_index_or places.now slot None) (λ p. p < length cuts.now) }
+    ensures { IfOk result (λ slots. slots ≡ map (crossing_set cuts.now atoms) places.now) }
 {
     let mut slots = Items::new(alloc);
     for place in places {
-        slots.push(crossing(alloc, atoms, *place)?)?;
+        slots.push(crossing(alloc, cuts, atoms, *place)?)?;
     }
     Ok(slots)
 }
 
-/// The atoms that a goal forbids whose predicate is this cut.
-fn forbidden<R: Drop>(
+/// Of so many atoms those that a goal forbids whose predicate is this cut.
+fn forbidden(
     alloc: Global,
-    atoms: &Atoms<R>,
+    cuts: &[AtomSet],
+    atoms: usize,
     goal: &Goal,
     cut: usize,
 ) -> Result<AtomSet, AllocError>
-    requires cut { cut < length (sets_in atoms.now) }
-    requires sizes { AllHaveLength (length (atoms_in atoms.now)) (sets_in atoms.now) }
-    ensures { IfOk result (λ set. set ≡ forbidden_set (sets_in atoms.now) (length (atoms_in atoms.now)) cut goal.now.only) }
+    requires cut { cut < length cuts.now }
+    requires sizes { AllHaveLength atoms cuts.now }
+    ensures { IfOk result (λ set. set ≡ forbidden_set cuts.now atoms cut goal.now.only) }
 {
     if !goal.only {
-        return atoms.cut(cut).copy(alloc);
+        return cuts[cut].copy(alloc);
     }
-    let mut others = AtomSet::full(alloc, atoms.len())?;
-    others.minus_with(atoms.cut(cut));
+    let mut others = AtomSet::full(alloc, atoms)?;
+    others.minus_with(&cuts[cut]);
     Ok(others)
 }
 
 /// The atoms that each goal forbids. The goals' cuts are the last ones, in the order of the goals.
-fn all_forbidden<R: Drop>(
+fn all_forbidden(
     alloc: Global,
-    atoms: &Atoms<R>,
+    cuts: &[AtomSet],
+    atoms: usize,
     goals: &[Goal],
 ) -> Result<Items<AtomSet>, AllocError>
-    requires cuts { length goals.now ≤ length (sets_in atoms.now) }
-    requires sizes { AllHaveLength (length (atoms_in atoms.now)) (sets_in atoms.now) }
-    ensures { IfOk result (λ bad. AreForbidden (sets_in atoms.now) (length (atoms_in atoms.now)) (length (sets_in atoms.now) - length goals.now) goals.now (length goals.now) bad) }
+    requires cuts { length goals.now ≤ length cuts.now }
+    requires sizes { AllHaveLength atoms cuts.now }
+    ensures { IfOk result (λ bad. AreForbidden cuts.now atoms (length cuts.now - length goals.now) goals.now (length goals.now) bad) }
 {
-    let first = atoms.cuts() - goals.len();
+    let first = cuts.len() - goals.len();
     let mut bad = Items::new(alloc);
     for k in 0..goals.len() {
-        bad.push(forbidden(alloc, atoms, &goals[k], first + k)?)?;
+        bad.push(forbidden(alloc, cuts, atoms, &goals[k], first + k)?)?;
     }
     Ok(bad)
 }
 
 /// The case of a network with these lists. The atoms are those of its filter cuts: its lists in their
 /// order, and then the predicates of its goals. Fails only for want of memory.
-pub fn case_of<S: Regions>(
+///
+/// The least members are moved into the case. A cut's set is copied for each slot and each goal, since a list may be at
+/// many slots.
+pub fn case_of(
     alloc: Global,
-    store: &S,
     net: &Network,
     applied: &Applied,
-    atoms: &Atoms<S::R>,
+    atoms: Atoms,
 ) -> Result<Case, AllocError>
     requires slots { length applied.now.at ≡ 2 * length net.now.interfaces }
-    requires atoms { AreAtoms S.fits S.has_header store.now (filter_tests applied.now.lists net.now.goals) (atoms_in atoms.now) (sets_in atoms.now) }
+    requires atoms { AreAtoms (filter_tests applied.now.lists net.now.goals) atoms }
     ensures { IfOk result (λ case. IsCaseOf net.now.interfaces net.now.goals applied.now case) }
 {
-    let slots = crossings(alloc, atoms, applied.at.as_slice())?;
-    let bad = all_forbidden(alloc, atoms, net.goals.as_slice())?;
-    let leasts = Items::from_vec(atoms.leasts(alloc)?);
+    let Atoms { leasts, cuts } = atoms;
+    let slots = crossings(alloc, cuts.as_slice(), leasts.len(), applied.at.as_slice())?;
+    let bad = all_forbidden(alloc, cuts.as_slice(), leasts.len(), net.goals.as_slice())?;
     Ok(Case {
         posture: Posture { slots },
         bad,

@@ -15,12 +15,14 @@ use Rattle.np_goals.proofs.Listing.{least_or_none}
 use Rattle.np_ipsec.specs.Steps.{area_at, area_has}
 use Rattle.np_ipsec.specs.Tables.{has_pop, in_action_of, is_sound, is_trusted_device}
 use Rattle.np_ipsec.specs.declared.tables.Top.TheVariants as tops
-use Rattle.np_auth.specs.Rules.{HasSourceToo, IsForeign, IsForgeable, LetsForged}
-use Rattle.np_auth.specs.Answers.{AreBothTrusted, HoldsA0, HoldsA1, HoldsA2, HoldsA2At, IsAnswer, IsFirstForged, IsFirstMark, IsFirstUntrusted, ComesBefore}
+use Rattle.np_ipsec.specs.Goals.{IsForeign}
+use Rattle.np_auth.specs.Rules.{HasSourceToo, IsForgeable, LetsForged}
+use Rattle.np_auth.specs.Passages.{ComesBefore}
+use Rattle.np_auth.specs.Answers.{AreBothTrusted, HoldsA0, HoldsA1, HoldsA2, HoldsA2At, IsAnswer, IsFirstForged, IsFirstMark, IsFirstUntrusted}
 use Rattle.np_auth.specs.declared.answers.Answer.{Answer}
 use Rattle.np_auth.specs.declared.answers.Answer.TheVariants.{Yes, No}
 use Rattle.np_auth.specs.declared.answers.Broken.TheVariants.{A0Area, A0Interface, A1, A2}
-use Rattle.np_conf.specs.Answers.{IsFirst}
+use Rattle.np_ipsec.specs.Searching.{IsFirst}
 use Rattle.np_ipgoals.specs.Existence.{HaveAuthAnswers}
 use Rattle.np_ipgoals.proofs.Searching.{Decided, decided_as, below_or_not, false_or_not, first_or_none, first_and_least, IsFirstWithLeast}
 
@@ -160,7 +162,7 @@ module _ (net : Plan) (from here : ℕ) (pred : Pred) where
   after_areas : AreBothTrusted net from here → Answered
   after_areas areas =
       elim first_foreign [
-        | inl found ↦ (No (A0Interface found.0), (areas, record { foreign = found.1.holds; first = found.1.first }))
+        | inl found ↦ (No (A0Interface found.0), (areas, found.1))
         | inr none ↦ after_own record { areas = areas; own = none }
       ]
 

@@ -10,9 +10,11 @@ use Rattle.np_flow.proofs.FindingLaws.{true_or_false, both_or_not}
 use Rattle.np_ipsec.specs.Steps.{area_at}
 use Rattle.np_ipsec.specs.Tables.{is_trusted_device, out_action_of}
 use Rattle.np_ipsec.specs.declared.tables.Top.TheVariants as tops
-use Rattle.np_conf.specs.Rules.{IsForeign, IsReadable, IsWayOut, LetsOutBare, LetsOutUnder}
+use Rattle.np_ipsec.specs.Goals.{IsForeign}
+use Rattle.np_ipsec.specs.Searching.{IsFirst}
+use Rattle.np_conf.specs.Rules.{IsReadable, IsWayOut, LetsOutBare, LetsOutUnder}
 use Rattle.np_conf.specs.Sets.{IsReadableSet, has_sa}
-use Rattle.np_conf.specs.Answers.{IsAnswer, IsFirst, KeepsBare, KeepsInside, LetsSomeUnder}
+use Rattle.np_conf.specs.Answers.{IsAnswer, KeepsBare, KeepsInside, LetsSomeUnder}
 use Rattle.np_conf.specs.declared.answers.Answer.{Answer}
 use Rattle.np_conf.specs.declared.answers.Answer.TheVariants.{Yes, No}
 use Rattle.np_conf.specs.declared.answers.Broken.TheVariants.{K0Area, K0Interface, K1, K2}

@@ -20,7 +20,8 @@ use Rattle.np_ipsec.specs.Tables.{fits_top, is_secret, is_trusted_device, out_ac
 use Rattle.np_ipsec.specs.declared.tables.Top.{Top}
 use Rattle.np_ipsec.specs.declared.tables.Top.TheVariants as tops
 use Rattle.np_conf.specs.Rules.{IsFirstAround, IsOwn, IsTrustedInterface}
-use Rattle.np_conf.specs.Sets.{Adds, IsGathered, IsLeft, IsReadableSet, PutsAt, PutsBefore, has_sa}
+use Rattle.np_conf.specs.Outlets.{PutsAt, PutsBefore}
+use Rattle.np_conf.specs.Sets.{Adds, IsGathered, IsLeft, IsReadableSet, has_sa}
 use Rattle.np_conf.proofs.SetLaws.{empty_replicate, fewer_left, gathered_all, gathered_more, with_done}
 use Rattle.np_ipgoals.proofs.Searching.{Decided, below_or_not, decided_as, false_or_not, some_header, some_or_none}
 

@@ -1,7 +1,7 @@
 -- What the tests of a network's IPsec part say the same of is the same to its rules, its goals and its areas.
-use Rattle.std.proofs.Common.{◌≡◌, ℕ, zero, suc, Bool, false, List, [], ◌∷◌, ◌++◌, map, get_or, refl, subst}
+use Rattle.std.proofs.Common.{◌≡◌, ℕ, zero, suc, Bool, false, List, [], ◌∷◌, ◌++◌, map, get_or, refl}
 use Rattle.std.specs.List.{AllByRecursion, flat_map}
-use Rattle.std.proofs.lemmas.List.Elements.{All-contains, All-from_recursion}
+use Rattle.std.proofs.lemmas.List.Elements.{All-from_recursion}
 use Rattle.np_space.specs.Classes.{IsAlike}
 use Rattle.np_space.specs.Header.{IsValid}
 use Rattle.np_space.specs.Patterns.{any_pattern_has}
@@ -10,8 +10,6 @@ use Rattle.np_pred.specs.Meaning.{pred_holds}
 use Rattle.np_pred.specs.declared.predicate.Pred.{Pred}
 use Rattle.np_net.specs.Plan.{Plan}
 use Rattle.np_net.specs.declared.filtering.Area.{Area}
-use Rattle.np_net.specs.declared.associations.IpGoal.{IpGoal}
-use Rattle.np_net.specs.declared.associations.IpGoal.TheVariants as goals
 use Rattle.np_net.specs.declared.associations.InRule.{InRule}
 use Rattle.np_net.specs.declared.associations.OutRule.{OutRule}
 use Rattle.np_net.specs.declared.associations.Match.{Match}
@@ -19,9 +17,9 @@ use Rattle.np_net.specs.declared.associations.Match.TheVariants as matches
 use Rattle.np_cut.specs.FilterCuts.{pred_test, pred_tests}
 use Rattle.np_ipsec.specs.Steps.{area_has}
 use Rattle.np_ipsec.specs.Tables.{table_at}
-use Rattle.np_auth.specs.Cuts as auth
-use Rattle.np_conf.specs.Cuts as conf
-use Rattle.np_ipgoals.specs.Cuts.{asked, goal_pred, ipsec_tests, source_test, table_preds}
+use Rattle.np_ipsec.specs.Alike.{AreTakenAlike, FitsAlike}
+use Rattle.np_ipsec.specs.Goals.{goal_pred}
+use Rattle.np_ipgoals.specs.Cuts.{asked, ipsec_tests, source_test, table_preds}
 use Rattle.np_ipgoals.specs.Respecting.{IpsecTestsAreRespected, LeastsServeTheChecks}
 
 -- ---- what holds of each item of lists
@@ -79,22 +77,10 @@ module _ (h k : Header) (valid : IsValid h) (other : IsValid k) where
   source_same area same = rw (valid, other) at same
 
   -- where each predicate that a rule asks says the same of both, the rule takes them alike
-  fits_same : (top : Match) → AllByRecursion SaysSame (asked top) → auth.FitsAlike top h k
+  fits_same : (top : Match) → AllByRecursion SaysSame (asked top) → FitsAlike top h k
   fits_same (matches.Plain pred) all = all.0
   fits_same (matches.Under n) all = tt
   fits_same matches.Every all = tt
-
-  asked_same : (top : Match) → AllByRecursion SaysSame (asked top) → (pred : Pred) → top ≡ matches.Plain pred → SaysSame pred
-  asked_same top all pred is = let all' : AllByRecursion SaysSame (asked (matches.Plain pred)) = subst (λ t. AllByRecursion SaysSame (asked t)) is all in all'.0
-
-  -- the predicate of a goal, as the checks name it
-  auth_same : (goal : IpGoal) → SaysSame (goal_pred goal) → SaysSame (auth.pred_of goal)
-  auth_same (goals.Auth from at pred) same = same
-  auth_same (goals.Conf from pred) same = same
-
-  conf_same : (goal : IpGoal) → SaysSame (goal_pred goal) → SaysSame (conf.goal_pred goal)
-  conf_same (goals.Auth from at pred) same = same
-  conf_same (goals.Conf from pred) same = same
 
   -- ---- all that a network asks
 
@@ -141,40 +127,22 @@ module _ (h k : Header) (valid : IsValid h) (other : IsValid k) where
         (all_second (λ (test : Header → Bool). test h ≡ test k) (pred_tests preds) (map source_test net.areas) all_tests))
         a
 
-    taken_alike : auth.AreTakenAlike net h k
+    taken_alike : AreTakenAlike net h k
     taken_alike = record {
-      rules = λ i lt.
-          All-from_recursion (λ (rule : InRule). auth.FitsAlike rule.top h k) (table_at net i).ins
-          (all_weaker (λ (rule : InRule). AllByRecursion SaysSame (asked rule.top)) (λ (rule : InRule). auth.FitsAlike rule.top h k) (λ rule all. fits_same rule.top all) (table_at net i).ins (ins_same i));
-      preds =
-          All-from_recursion (λ goal. SaysSame (auth.pred_of goal)) net.ipgoals
-          (all_weaker (λ goal. SaysSame (goal_pred goal)) (λ goal. SaysSame (auth.pred_of goal)) auth_same net.ipgoals goals_same);
-      sources = λ a lt. areas_same a;
-    }
-
-    treated_alike : conf.AreTreatedAlike net h k
-    treated_alike = record {
-      rules = λ i lt rule listed pred is.
-          asked_same rule.top
-          (All-contains (λ (rule : OutRule). AllByRecursion SaysSame (asked rule.top)) (table_at net i).outs rule
-          (All-from_recursion (λ (rule : OutRule). AllByRecursion SaysSame (asked rule.top)) (table_at net i).outs (outs_same i)) listed)
-          pred is;
-      goals = λ pred is.
-          subst SaysSame is.same
-          (conf_same is.goal (All-contains (λ goal. SaysSame (goal_pred goal)) net.ipgoals is.goal (All-from_recursion (λ goal. SaysSame (goal_pred goal)) net.ipgoals goals_same) is.listed));
+      ins = λ i lt.
+          All-from_recursion (λ (rule : InRule). FitsAlike rule.top h k) (table_at net i).ins
+          (all_weaker (λ (rule : InRule). AllByRecursion SaysSame (asked rule.top)) (λ (rule : InRule). FitsAlike rule.top h k) (λ rule all. fits_same rule.top all) (table_at net i).ins (ins_same i));
+      outs = λ i lt.
+          All-from_recursion (λ (rule : OutRule). FitsAlike rule.top h k) (table_at net i).outs
+          (all_weaker (λ (rule : OutRule). AllByRecursion SaysSame (asked rule.top)) (λ (rule : OutRule). FitsAlike rule.top h k) (λ rule all. fits_same rule.top all) (table_at net i).outs (outs_same i));
+      preds = All-from_recursion (λ goal. SaysSame (goal_pred goal)) net.ipgoals goals_same;
       sources = λ a lt. areas_same a;
     }
 
 -- ---- the laws
 
 pub tests_are_respected : IpsecTestsAreRespected
-tests_are_respected = record {
-  by_auth = λ net h k valid other alike. taken_alike h k valid other net alike;
-  by_conf = λ net h k valid other alike. treated_alike h k valid other net alike;
-}
+tests_are_respected net h k valid other alike = taken_alike h k valid other net alike
 
 pub leasts_serve : LeastsServeTheChecks
-leasts_serve = record {
-  for_auth = λ net leasts are. record { tests = ipsec_tests net; least = are; respected = tests_are_respected.by_auth net };
-  for_conf = λ net leasts are. (ipsec_tests net, are, tests_are_respected.by_conf net);
-}
+leasts_serve net leasts are = record { tests = ipsec_tests net; least = are; respected = tests_are_respected net }

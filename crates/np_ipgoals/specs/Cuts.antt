@@ -7,14 +7,13 @@ use Rattle.np_space.specs.declared.headers.Header.{Header}
 use Rattle.np_pred.specs.declared.predicate.Pred.{Pred}
 use Rattle.np_net.specs.Plan.{Plan}
 use Rattle.np_net.specs.declared.filtering.Area.{Area}
-use Rattle.np_net.specs.declared.associations.IpGoal.{IpGoal}
-use Rattle.np_net.specs.declared.associations.IpGoal.TheVariants as goals
 use Rattle.np_net.specs.declared.associations.InRule.{InRule}
 use Rattle.np_net.specs.declared.associations.OutRule.{OutRule}
 use Rattle.np_net.specs.declared.associations.Match.{Match}
 use Rattle.np_net.specs.declared.associations.Match.TheVariants as matches
 use Rattle.np_net.specs.declared.associations.Table.{Table}
 use Rattle.np_cut.specs.FilterCuts.{pred_tests}
+use Rattle.np_ipsec.specs.Goals.{goal_pred}
 
 -- the predicate that a match asks of a plain header, if it does
 abbrev pub asked : Match → List Pred
@@ -25,11 +24,6 @@ asked matches.Every = []
 -- those that an interface's rules ask: the inward ones, and then the outward ones
 abbrev pub table_preds : Table → List Pred
 table_preds table = flat_map (λ (rule : InRule). asked rule.top) table.ins ++ flat_map (λ (rule : OutRule). asked rule.top) table.outs
-
--- the predicate of an IPsec goal
-abbrev pub goal_pred : IpGoal → Pred
-goal_pred (goals.Auth from at pred) = pred
-goal_pred (goals.Conf from pred) = pred
 
 -- of the valid headers those with a source in the area
 abbrev pub source_test : Area → Header → Bool

@@ -1,3 +1,4 @@
 pub mod Cuts
 pub mod Respecting
 pub mod Existence
+pub mod Findings

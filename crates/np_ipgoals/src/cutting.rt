@@ -4,9 +4,11 @@ ghost use Rattle.std.specs.Prelude.{◌≡◌, ◌++◌, map, IfOk, OnOk};
 ghost use Rattle.std.specs.List.{flat_map};
 ghost use Rattle.np_space.specs.declared.headers.Header.{Header};
 ghost use Rattle.np_region.specs.Keeping.{KeepsRegions, EachFits, tests_of};
-ghost use Rattle.np_ipgoals.specs.Cuts.{asked, goal_pred, ipsec_tests, source_test, table_preds};
+ghost use Rattle.np_ipsec.specs.Goals.{goal_pred};
+ghost use Rattle.np_ipgoals.specs.Cuts.{asked, ipsec_tests, source_test, table_preds};
 
 use np_cut::{pred_region, with_preds};
+use np_ipsec::goal_pred;
 use np_net::{Area, InRule, IpGoal, Match, Network, OutRule, Table};
 use np_pred::Pred;
 use np_region::Regions;
@@ -62,16 +64,6 @@ fn add_tables<'a>(preds: &mut Vec<&'a Pred>, tables: &'a [Table]) -> Result<(), 
         add_table(preds, table)?;
     }
     Ok(())
-}
-
-/// The predicate of a goal.
-fn goal_pred(goal: &IpGoal) -> &Pred
-    ensures { result.now ≡ goal_pred goal.now }
-{
-    match goal {
-        IpGoal::Auth { pred, .. } => pred,
-        IpGoal::Conf { pred, .. } => pred,
-    }
 }
 
 /// Adds the predicates of goals.

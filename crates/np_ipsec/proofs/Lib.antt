@@ -1,4 +1,6 @@
+pub mod AlikeLaws
 pub mod DepthLaws
+pub mod LeastLaws
 pub mod RangeLaws
 pub mod RuleLaws
 pub mod StepLaws

@@ -42,13 +42,23 @@ pub fn is_trusted_device(net: &Network, device: DevId) -> bool
     net.devices.as_slice()[device as usize].trusted
 }
 
-/// The device that an interface belongs to.
-fn device_of(net: &Network, i: IfId) -> DevId
+/// The device that an interface belongs to. `i` is below the number of interfaces.
+pub fn device_of(net: &Network, i: IfId) -> DevId
     requires { i < length net.now.interfaces }
     ensures value { result ≡ path.device_of net.now.interfaces i }
     ensures within { result < length net.now.devices }
 {
     net.interfaces.as_slice()[i as usize].device
+}
+
+/// The area that an interface is on. `i` is below the number of interfaces.
+#[tactic(auto, using(np_net::proofs::RangeLaws::area_in_range))]
+pub fn area_of(net: &Network, i: IfId) -> AreaId
+    requires { i < length net.now.interfaces }
+    ensures value { result ≡ path.area_of net.now.interfaces i }
+    ensures within { result < length net.now.areas }
+{
+    net.interfaces.as_slice()[i as usize].area
 }
 
 /// Whether a place is trusted: its area is, or the device of its interface (Guttman and Herzog 2005).

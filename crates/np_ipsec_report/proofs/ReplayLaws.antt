@@ -3,8 +3,8 @@ use Rattle.std.proofs.Common.{◌≡◌, ℕ, List, [], ◌∷◌, ◌++◌, map
 use Rattle.np_net.specs.Plan.{Plan}
 use Rattle.np_ipsec.specs.Steps.{State}
 use Rattle.np_traj.specs.declared.states.Illegal.{Illegal}
-use Rattle.np_net_read.specs.CanonicalText.{line_text, lines_text}
-use Rattle.np_net_read.proofs.CanonicalLaws.{lines_text-append}
+use Rattle.np_net_text.specs.CanonicalText.{line_text, lines_text}
+use Rattle.np_net_text.proofs.CanonicalLaws.{lines_text-append}
 use Rattle.np_report.specs.Words.{text_of}
 use Rattle.np_ipsec_report.specs.Replays.{breach_words, legal_word, replay_text, state_lines, stop_lines}
 use Rattle.np_report.proofs.TextLaws.{lines_appended}

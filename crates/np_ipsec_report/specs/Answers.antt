@@ -14,8 +14,8 @@ use Rattle.np_conf.specs.declared.answers.Broken.{Broken as ConfBroken}
 use Rattle.np_conf.specs.declared.answers.Broken.TheVariants as k
 use Rattle.np_ipsec_report.specs.declared.answers.IpAnswer.{IpAnswer}
 use Rattle.np_ipsec_report.specs.declared.answers.IpAnswer.TheVariants as answers
-use Rattle.np_ipsec_report.specs.Replays.{interface_words}
-use Rattle.np_report.specs.Words.{text_of, header_words}
+use Rattle.np_script.specs.Written.{header_words, interface_words}
+use Rattle.np_report.specs.Words.{text_of}
 
 -- the words of a mark that lets a forged packet pass
 abbrev pub forged_words : Plan → Option ℕ → List (List ℕ)

@@ -2,25 +2,13 @@
 use Rattle.std.specs.Prelude.{ℕ, ◌+◌, List, [], ◌∷◌, ◌++◌, codes, map, Option, Some, None}
 use Rattle.std.specs.Fmt.{decimal}
 use Rattle.std.specs.List.{flat_map}
-use Rattle.np_net.specs.Naming.{area_name, device_name, interface_name, sa_name}
-use Rattle.np_net.specs.Path.{device_of}
+use Rattle.np_net.specs.Naming.{sa_name}
 use Rattle.np_net.specs.Plan.{Plan}
 use Rattle.np_ipsec.specs.Steps.{State}
-use Rattle.np_ipsec.specs.declared.places.Place.{Place}
-use Rattle.np_ipsec.specs.declared.places.Place.TheVariants as at
+use Rattle.np_script.specs.Written.{place_words}
 use Rattle.np_traj.specs.declared.states.Illegal.{Illegal}
 use Rattle.np_traj.specs.declared.states.Illegal.TheVariants as illegal
 use Rattle.np_report.specs.Words.{text_of}
-
--- the words of an interface: its device's name and its own
-abbrev pub interface_words : Plan → ℕ → List (List ℕ)
-interface_words net i = device_name net (device_of net.interfaces i) ∷ interface_name net i ∷ []
-
--- the words of a place
-abbrev pub place_words : Plan → Place → List (List ℕ)
-place_words net (at.AtArea a) = codes "area" ∷ area_name net a ∷ []
-place_words net (at.AtIn i) = codes "in" ∷ interface_words net i
-place_words net (at.AtOut i) = codes "out" ∷ interface_words net i
 
 -- the names of associations, from the bottom, joined by commas; `-` where there is none
 abbrev pub stack_word : Plan → List ℕ → List ℕ

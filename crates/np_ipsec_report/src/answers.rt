@@ -5,9 +5,8 @@ ghost use Rattle.std.specs.Fmt.{decimal};
 ghost use Rattle.std.specs.List.{All};
 ghost use Rattle.np_text.specs.Appending.{AppendsFront};
 ghost use Rattle.np_net.specs.Naming as naming;
-ghost use Rattle.np_net_read.specs.CanonicalText.{line_text, lines_text, spaced};
-ghost use Rattle.np_report.specs.Words.{header_words};
-ghost use Rattle.np_ipsec_report.specs.Replays.{interface_words};
+ghost use Rattle.np_net_text.specs.CanonicalText.{line_text, lines_text, spaced};
+ghost use Rattle.np_script.specs.Written.{header_words, interface_words};
 ghost use Rattle.np_ipsec_report.specs.Answers as report;
 ghost use Rattle.np_ipsec_report.specs.Answers.{answers_text, HasAuthPlaces, HasConfPlaces, HasPlaces};
 

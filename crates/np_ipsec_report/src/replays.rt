@@ -5,8 +5,9 @@ ghost use Rattle.std.specs.Fmt.{decimal};
 ghost use Rattle.std.specs.List.{All, flat_map};
 ghost use Rattle.np_text.specs.Appending.{AppendsFront};
 ghost use Rattle.np_net.specs.Naming.{sa_name};
-ghost use Rattle.np_net_read.specs.CanonicalText.{line_text, lines_text, spaced};
+ghost use Rattle.np_net_text.specs.CanonicalText.{line_text, lines_text, spaced};
 ghost use Rattle.np_ipsec.specs.Steps.{IsPlace};
+ghost use Rattle.np_script.specs.Written.{place_words};
 ghost use Rattle.np_traj.specs.States.{IsStateOf};
 ghost use Rattle.np_ipsec_report.specs.Replays as report;
 ghost use Rattle.np_ipsec_report.specs.Replays.{replay_text};
@@ -23,7 +24,7 @@ use std::alloc::{AllocError, Global};
 // Appends the words of a place, each after a space.
 fn put_place(text: &mut Vec<u8>, net: &Network, place: Place) -> Result<(), AllocError>
     requires { IsPlace net.now place }
-    ensures { OnOk result (text.new.items ≡ text.old.items ++ spaced (report.place_words net.now place)) }
+    ensures { OnOk result (text.new.items ≡ text.old.items ++ spaced (place_words net.now place)) }
 {
     match place {
         Place::AtArea(area) => {

@@ -1,6 +1,7 @@
 //! The IPsec part of networks' texts: read and written again, and refused.
 
-use np_net_read::{NetError, NetFault, NetWhy, put_net, read_net};
+use np_net_read::{NetError, NetFault, NetWhy, read_net};
+use np_net_text::put_net;
 use std::alloc::{AllocError, Global};
 use std::test::Fail;
 

@@ -1,6 +1,7 @@
 //! Texts of networks: read and written again, and refused.
 
-use np_net_read::{NetError, NetFault, NetWhy, put_net, read_net};
+use np_net_read::{NetError, NetFault, NetWhy, read_net};
+use np_net_text::put_net;
 use std::test::Fail;
 
 /// Two areas, two ways between them, and an area that only the first device is on.

@@ -1,9 +1,6 @@
-//! A network's text: how it is read, and its canonical form.
+//! A network's text, and how it is read.
 #![tactic(auto)]
 
-mod canonical;
-mod canonical_ipsec;
-mod canonical_words;
 mod declared;
 mod draft;
 mod endings;
@@ -18,7 +15,6 @@ mod statements;
 mod tables;
 mod tokens;
 
-pub use canonical::put_net;
 pub use fault::{NetError, NetFault, NetWhy};
-pub use laws::{canonical_text_is_words, canonical_text_reads_back};
+pub use laws::tables_are_filters;
 pub use reading::read_net;

@@ -5,10 +5,11 @@ use Rattle.std.proofs.lemmas.Grind.{flat_map-append}
 use Rattle.np_space.specs.declared.headers.Header.{Header}
 use Rattle.np_net.specs.Plan.{Plan}
 use Rattle.np_net.specs.declared.filtering.Goal.{Goal}
-use Rattle.np_net_read.specs.CanonicalText.{spaced, line_text, lines_text}
-use Rattle.np_net_read.proofs.ParallelLaws.{drop-item}
-use Rattle.np_net_read.proofs.CanonicalLaws.{lines_text-append}
-use Rattle.np_report.specs.Words.{text_of, header_words}
+use Rattle.np_net_text.specs.CanonicalText.{spaced, line_text, lines_text}
+use Rattle.np_net_text.proofs.ParallelLaws.{drop-item}
+use Rattle.np_net_text.proofs.CanonicalLaws.{lines_text-append}
+use Rattle.np_script.specs.Written.{header_words}
+use Rattle.np_report.specs.Words.{text_of}
 use Rattle.np_report.specs.Atoms.{goal_lines, list_lines, digits, atom_lines, atoms_text}
 use Rattle.np_report.proofs.TextLaws.{lines_appended}
 

@@ -3,3 +3,4 @@ pub mod TextLaws
 pub mod RunLaws
 pub mod DropLaws
 pub mod SynthesisLaws
+pub mod SummaryLaws

@@ -3,8 +3,8 @@ use Rattle.std.proofs.Common.{◌≡◌, ℕ, Bool, List, [], ◌∷◌, ◌++�
 use Rattle.std.specs.Fmt.{decimal}
 use Rattle.np_space.specs.declared.headers.Header.{Header}
 use Rattle.np_net.specs.Plan.{Plan}
-use Rattle.np_net_read.specs.CanonicalText.{spaced, line_text, lines_text}
-use Rattle.np_net_read.proofs.CanonicalLaws.{lines_text-append}
+use Rattle.np_net_text.specs.CanonicalText.{spaced, line_text, lines_text}
+use Rattle.np_net_text.proofs.CanonicalLaws.{lines_text-append}
 use Rattle.np_synth.specs.declared.chosen.Dropped.{Dropped}
 use Rattle.np_report.specs.Words.{text_of}
 use Rattle.np_report.specs.Synthesis.{slots_lines, least_lines, chosen_text}

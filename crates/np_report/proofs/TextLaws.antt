@@ -3,8 +3,8 @@ use Rattle.std.proofs.Common.{◌≡◌, ℕ, List, [], ◌∷◌, ◌++◌, sym
 use Rattle.std.specs.List.{flat_map}
 use Rattle.std.proofs.lemmas.List.Folds.{flat_map-map}
 use Rattle.np_net.specs.Plan.{Plan}
-use Rattle.np_net_read.specs.CanonicalText.{line_text, lines_text}
-use Rattle.np_net_read.proofs.CanonicalLaws.{lines_text-joined, lines_text-append}
+use Rattle.np_net_text.specs.CanonicalText.{line_text, lines_text}
+use Rattle.np_net_text.proofs.CanonicalLaws.{lines_text-joined, lines_text-append}
 use Rattle.np_report.specs.Words.{text_of, hop_words, hop_lines}
 
 -- the text of lines is that of one line after another

@@ -5,7 +5,8 @@ use Rattle.np_space.specs.declared.headers.Header.{Header}
 use Rattle.np_atomset.specs.AtomSet.{has_member}
 use Rattle.np_net.specs.Naming.{device_name}
 use Rattle.np_net.specs.Plan.{Plan}
-use Rattle.np_report.specs.Words.{text_of, header_words}
+use Rattle.np_script.specs.Written.{header_words}
+use Rattle.np_report.specs.Words.{text_of}
 
 -- a line for each list that is applied, of which the first has this number: its device and its name
 abbrev pub list_lines : Plan → ℕ → List (ℕ × List ℕ) → List (List (List ℕ))

@@ -9,7 +9,8 @@ use Rattle.np_net.specs.Plan.{Plan}
 use Rattle.np_net.specs.declared.filtering.Interface.{Interface}
 use Rattle.np_synth.specs.Dropping.{nothing}
 use Rattle.np_synth.specs.declared.chosen.Dropped.{Dropped}
-use Rattle.np_report.specs.Words.{text_of, header_words, hop_lines}
+use Rattle.np_script.specs.Written.{header_words}
+use Rattle.np_report.specs.Words.{text_of, hop_lines}
 
 -- ---- sets of atoms
 

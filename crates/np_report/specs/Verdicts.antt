@@ -6,7 +6,8 @@ use Rattle.np_net.specs.Plan.{Plan}
 use Rattle.np_net.specs.declared.filtering.Interface.{Interface}
 use Rattle.np_goals.specs.declared.verdicts.Verdict.{Verdict}
 use Rattle.np_goals.specs.declared.verdicts.Verdict.TheVariants.{Holds, Violated}
-use Rattle.np_report.specs.Words.{text_of, header_words, hop_lines}
+use Rattle.np_script.specs.Written.{header_words}
+use Rattle.np_report.specs.Words.{text_of, hop_lines}
 
 -- the lines of the goal of this number: that it holds, or the least header that breaks it and the hops of its first path
 abbrev pub verdict_lines : Plan → ℕ → Verdict → List (List (List ℕ))
@@ -27,9 +28,13 @@ is_holding (Violated header path) = false
 abbrev pub all_hold : List Verdict → Bool
 all_hold verdicts = list_all is_holding verdicts
 
--- the text: the goals from 1 on, and a last line that says whether all hold
+-- the lines of the goals from 1 on, and a last line that says whether all hold
+abbrev pub verdicts_lines : Plan → List Verdict → List (List (List ℕ))
+verdicts_lines net verdicts = goals_lines net 1 verdicts ++ ((if all_hold verdicts then codes "holds" else codes "fails") ∷ []) ∷ []
+
+-- their text
 abbrev pub verdicts_text : Plan → List Verdict → List ℕ
-verdicts_text net verdicts = text_of (goals_lines net 1 verdicts ++ ((if all_hold verdicts then codes "holds" else codes "fails") ∷ []) ∷ [])
+verdicts_text net verdicts = text_of (verdicts_lines net verdicts)
 
 -- the interfaces of the path of a violated goal are among these
 abbrev pub HasInterfaces : List Interface → Verdict → Type 0

@@ -4,14 +4,14 @@ ghost use Rattle.std.specs.Prelude.{◌≡◌, ◌∷◌, ◌++◌, ◌+◌, ◌
 ghost use Rattle.std.specs.Fmt.{decimal};
 ghost use Rattle.np_text.specs.Appending.{AppendsFront};
 ghost use Rattle.np_atomset.specs.AtomSet.{has_member};
-ghost use Rattle.np_atomizer.specs.Atoms.{atoms_in, leasts_of, sets_in};
 ghost use Rattle.np_net.specs.Naming.{device_name};
-ghost use Rattle.np_net_read.specs.CanonicalText.{line_text, lines_text, spaced};
-ghost use Rattle.np_report.specs.Words.{header_words};
+ghost use Rattle.np_net_text.specs.CanonicalText.{line_text, lines_text, spaced};
+ghost use Rattle.np_script.specs.Written.{header_words};
 ghost use Rattle.np_report.specs.Atoms.{atoms_text, atom_lines, goal_lines, list_lines, digits};
 
 use crate::words::{put_header, put_number_word, put_word};
-use np_atomizer::Atoms;
+use np_atoms::Atoms;
+use np_atomset::AtomSet;
 use np_cut::Applied;
 use np_net::{DevId, Goal, Network, device_name};
 use np_space::Header;
@@ -102,91 +102,91 @@ fn digit(has: bool) -> u8
 }
 
 // Appends a digit for each cut.
-fn put_each<R: Drop>(text: &mut Vec<u8>, atoms: &Atoms<R>, n: usize) -> Result<(), AllocError>
-    requires { (k : ℕ) → k < length (sets_in atoms.now) → n < length (slice_index_or (sets_in atoms.now) k []) }
-    ensures { OnOk result (text.new.items ≡ text.old.items ++ map (λ s. if has_member s n then 49 else 48) (sets_in atoms.now)) }
+fn put_each(text: &mut Vec<u8>, cuts: &[AtomSet], n: usize) -> Result<(), AllocError>
+    requires { (k : ℕ) → k < length cuts.now → n < length (slice_index_or cuts.now k []) }
+    ensures { OnOk result (text.new.items ≡ text.old.items ++ map (λ s. if has_member s n then 49 else 48) cuts.now) }
 {
-    for cut in 0..atoms.cuts() {
-        text.push(digit(atoms.answer(n, cut)))?;
+    for cut in cuts {
+        text.push(digit(cut.has(n)))?;
     }
     Ok(())
 }
 
 // Appends what the cuts say of an atom.
-fn put_digits<R: Drop>(text: &mut Vec<u8>, atoms: &Atoms<R>, n: usize) -> Result<(), AllocError>
-    requires { (k : ℕ) → k < length (sets_in atoms.now) → n < length (slice_index_or (sets_in atoms.now) k []) }
-    ensures { OnOk result (text.new.items ≡ text.old.items ++ digits (sets_in atoms.now) n) }
+fn put_digits(text: &mut Vec<u8>, cuts: &[AtomSet], n: usize) -> Result<(), AllocError>
+    requires { (k : ℕ) → k < length cuts.now → n < length (slice_index_or cuts.now k []) }
+    ensures { OnOk result (text.new.items ≡ text.old.items ++ digits cuts.now n) }
 {
-    if atoms.cuts() == 0 {
+    if cuts.is_empty() {
         text.push(b'-')?;
         return Ok(());
     }
-    put_each(text, atoms, n)
+    put_each(text, cuts, n)
 }
 
 // Appends the words of an atom's least member and what the cuts say of it, each after a space.
-fn put_answers<R: Drop>(
+fn put_answers(
     text: &mut Vec<u8>,
-    atoms: &Atoms<R>,
+    cuts: &[AtomSet],
     n: usize,
     least: &Header,
 ) -> Result<(), AllocError>
-    requires { (k : ℕ) → k < length (sets_in atoms.now) → n < length (slice_index_or (sets_in atoms.now) k []) }
-    ensures { OnOk result (text.new.items ≡ text.old.items ++ spaced (header_words least.now ++ digits (sets_in atoms.now) n ∷ [])) }
+    requires { (k : ℕ) → k < length cuts.now → n < length (slice_index_or cuts.now k []) }
+    ensures { OnOk result (text.new.items ≡ text.old.items ++ spaced (header_words least.now ++ digits cuts.now n ∷ [])) }
 {
     put_header(text, least)?;
     text.push(b' ')?;
-    put_digits(text, atoms, n)?;
+    put_digits(text, cuts, n)?;
     Ok(())
 }
 
 // Appends the line of an atom, whose least member this is.
-fn put_atom<R: Drop>(
+fn put_atom(
     text: &mut Vec<u8>,
-    atoms: &Atoms<R>,
+    cuts: &[AtomSet],
     n: usize,
     least: &Header,
 ) -> Result<(), AllocError>
     requires few { n + 1 < 2 ^ 64 }
-    requires sets { (k : ℕ) → k < length (sets_in atoms.now) → n < length (slice_index_or (sets_in atoms.now) k []) }
-    ensures { OnOk result (text.new.items ≡ text.old.items ++ line_text (codes "atom" ∷ decimal (n + 1) ∷ (header_words least.now ++ digits (sets_in atoms.now) n ∷ []))) }
+    requires sets { (k : ℕ) → k < length cuts.now → n < length (slice_index_or cuts.now k []) }
+    ensures { OnOk result (text.new.items ≡ text.old.items ++ line_text (codes "atom" ∷ decimal (n + 1) ∷ (header_words least.now ++ digits cuts.now n ∷ []))) }
 {
     text.extend_from_slice(b"atom")?;
     put_number_word(text, n as u64 + 1)?;
-    put_answers(text, atoms, n, least)?;
+    put_answers(text, cuts, n, least)?;
     text.push(b'\n')?;
     Ok(())
 }
 
 // Appends the lines of each atom.
-fn put_each_atom<R: Drop>(text: &mut Vec<u8>, atoms: &Atoms<R>) -> Result<(), AllocError>
-    requires { (k : ℕ) → k < length (sets_in atoms.now) → length (slice_index_or (sets_in atoms.now) k []) ≡ length (atoms_in atoms.now) }
-    ensures { OnOk result (text.new.items ≡ text.old.items ++ lines_text (atom_lines (sets_in atoms.now) 0 (leasts_of (atoms_in atoms.now)))) }
+fn put_each_atom(text: &mut Vec<u8>, cuts: &[AtomSet], leasts: &[Header]) -> Result<(), AllocError>
+    requires { (k : ℕ) → k < length cuts.now → length (slice_index_or cuts.now k []) ≡ length leasts.now }
+    ensures { OnOk result (text.new.items ≡ text.old.items ++ lines_text (atom_lines cuts.now 0 leasts.now)) }
 {
-    for n in 0..atoms.len() {
-        put_atom(text, atoms, n, &atoms.least(n))?;
+    for n in 0..leasts.len() {
+        put_atom(text, cuts, n, &leasts[n])?;
     }
     Ok(())
 }
 
 // Appends the lines of the atoms: how many there are, and then each one's.
-fn put_all_atoms<R: Drop>(text: &mut Vec<u8>, atoms: &Atoms<R>) -> Result<(), AllocError>
-    requires { (k : ℕ) → k < length (sets_in atoms.now) → length (slice_index_or (sets_in atoms.now) k []) ≡ length (atoms_in atoms.now) }
-    ensures { OnOk result (text.new.items ≡ text.old.items ++ lines_text ((codes "atoms" ∷ decimal (length (leasts_of (atoms_in atoms.now))) ∷ []) ∷ atom_lines (sets_in atoms.now) 0 (leasts_of (atoms_in atoms.now)))) }
+fn put_all_atoms(text: &mut Vec<u8>, cuts: &[AtomSet], leasts: &[Header]) -> Result<(), AllocError>
+    requires { (k : ℕ) → k < length cuts.now → length (slice_index_or cuts.now k []) ≡ length leasts.now }
+    ensures { OnOk result (text.new.items ≡ text.old.items ++ lines_text ((codes "atoms" ∷ decimal (length leasts.now) ∷ []) ∷ atom_lines cuts.now 0 leasts.now)) }
 {
-    put_count(text, b"atoms", atoms.len() as u64)?;
-    put_each_atom(text, atoms)
+    put_count(text, b"atoms", leasts.len() as u64)?;
+    put_each_atom(text, cuts, leasts)
 }
 
 // The report on atoms.
-fn report<R: Drop>(
+fn report(
     alloc: Global,
     net: &Network,
     applied: &Applied,
-    atoms: &Atoms<R>,
+    atoms: &Atoms,
 ) -> Result<Vec<u8>, AllocError>
-    requires { (k : ℕ) → k < length (sets_in atoms.now) → length (slice_index_or (sets_in atoms.now) k []) ≡ length (atoms_in atoms.now) }
-    ensures { IfOk result (λ text. text.items ≡ atoms_text net.now applied.now.names (sets_in atoms.now) (leasts_of (atoms_in atoms.now))) }
+    requires { (k : ℕ) → k < length atoms.now.cuts → length (slice_index_or atoms.now.cuts k []) ≡ length atoms.now.leasts }
+    ensures { IfOk result (λ text. text.items ≡ atoms_text net.now applied.now.names atoms.now.cuts atoms.now.leasts) }
 {
     let mut text = Vec::new(alloc);
     put_cuts(
@@ -195,7 +195,7 @@ fn report<R: Drop>(
         applied.names.as_slice(),
         net.goals.as_slice(),
     )?;
-    put_all_atoms(&mut text, atoms)?;
+    put_all_atoms(&mut text, atoms.cuts.as_slice(), atoms.leasts.as_slice())?;
     Ok(text)
 }
 
@@ -203,16 +203,16 @@ fn report<R: Drop>(
 /// then the goals, and each atom's least member with what the cuts say of it.
 ///
 /// Where memory runs out, which alone is an error, a prefix of it may have been appended.
-pub fn put_atoms<R: Drop>(
+pub fn put_atoms(
     alloc: Global,
     out: &mut Vec<u8>,
     net: &Network,
     applied: &Applied,
-    atoms: &Atoms<R>,
+    atoms: &Atoms,
 ) -> Result<(), AllocError>
-    requires sets { (k : ℕ) → k < length (sets_in atoms.now) → length (slice_index_or (sets_in atoms.now) k []) ≡ length (atoms_in atoms.now) }
-    ensures ok { OnOk result (out.new.items ≡ out.old.items ++ atoms_text net.now applied.now.names (sets_in atoms.now) (leasts_of (atoms_in atoms.now))) }
-    ensures err { OnErr result (AppendsFront out.old.items out.new.items (atoms_text net.now applied.now.names (sets_in atoms.now) (leasts_of (atoms_in atoms.now)))) }
+    requires sets { (k : ℕ) → k < length atoms.now.cuts → length (slice_index_or atoms.now.cuts k []) ≡ length atoms.now.leasts }
+    ensures ok { OnOk result (out.new.items ≡ out.old.items ++ atoms_text net.now applied.now.names atoms.now.cuts atoms.now.leasts) }
+    ensures err { OnErr result (AppendsFront out.old.items out.new.items (atoms_text net.now applied.now.names atoms.now.cuts atoms.now.leasts)) }
 {
     // The text is whole before any of it is appended.
     let text = report(alloc, net, applied, atoms)?;

@@ -2,7 +2,7 @@
 
 ghost use Rattle.std.specs.Prelude.{◌≡◌, ◌++◌, OnOk, OnErr, IfOk};
 ghost use Rattle.np_text.specs.Appending.{AppendsFront};
-ghost use Rattle.np_net_read.specs.CanonicalText.{spaced};
+ghost use Rattle.np_net_text.specs.CanonicalText.{spaced};
 ghost use Rattle.np_report.specs.Refusals as refusals;
 ghost use Rattle.np_report.specs.Refusals.{refusal_text};
 

@@ -4,8 +4,8 @@ ghost use Rattle.std.specs.Prelude.{◌≡◌, ◌∷◌, ◌++◌, ◌+◌, ◌
 ghost use Rattle.std.specs.Fmt.{decimal};
 ghost use Rattle.std.specs.List.{All, flat_map};
 ghost use Rattle.np_text.specs.Appending.{AppendsFront};
-ghost use Rattle.np_net_read.specs.CanonicalText.{line_text, lines_text};
-ghost use Rattle.np_report.specs.Words.{header_words};
+ghost use Rattle.np_net_text.specs.CanonicalText.{line_text, lines_text};
+ghost use Rattle.np_script.specs.Written.{header_words};
 ghost use Rattle.np_report.specs.Drops.{slot_at, AreBySlot, AreBefore, IsWritable};
 ghost use Rattle.np_report.specs.Synthesis as report;
 ghost use Rattle.np_report.specs.Synthesis.{chosen_text, unattainable_text, AreInOrder, HopsWithin};

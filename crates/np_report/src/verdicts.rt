@@ -3,8 +3,9 @@
 ghost use Rattle.std.specs.Prelude.{◌≡◌, ◌∷◌, ◌++◌, ◌<◌, length, codes, if◌then◌else◌, OnOk, OnErr, IfOk};
 ghost use Rattle.std.specs.List.{All};
 ghost use Rattle.np_text.specs.Appending.{AppendsFront};
-ghost use Rattle.np_net_read.specs.CanonicalText.{lines_text, spaced};
-ghost use Rattle.np_report.specs.Words.{header_words, hop_lines};
+ghost use Rattle.np_net_text.specs.CanonicalText.{lines_text, spaced};
+ghost use Rattle.np_script.specs.Written.{header_words};
+ghost use Rattle.np_report.specs.Words.{hop_lines};
 ghost use Rattle.np_report.specs.Verdicts as report;
 ghost use Rattle.np_report.specs.Verdicts.{verdicts_text, HasInterfaces};
 
@@ -66,7 +67,7 @@ fn put_goals(text: &mut Vec<u8>, net: &Network, verdicts: &[Verdict]) -> Result<
     Ok(())
 }
 
-fn is_holding(verdict: &Verdict) -> bool
+pub(crate) fn is_holding(verdict: &Verdict) -> bool
     ensures { result ≡ report.is_holding verdict.now }
 {
     match verdict {

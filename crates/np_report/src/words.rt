@@ -6,8 +6,9 @@ ghost use Rattle.std.specs.List.{All};
 ghost use Rattle.np_text.specs.Addresses.{dotted};
 ghost use Rattle.np_space.specs.Flag.{flag_number};
 ghost use Rattle.np_net.specs.Path as path;
-ghost use Rattle.np_net_read.specs.CanonicalText.{line_text, lines_text, spaced};
-ghost use Rattle.np_report.specs.Words.{dscp_words, header_words, hop_words, hop_lines};
+ghost use Rattle.np_net_text.specs.CanonicalText.{line_text, lines_text, spaced};
+ghost use Rattle.np_script.specs.Written.{dscp_words, header_words};
+ghost use Rattle.np_report.specs.Words.{hop_words, hop_lines};
 
 use np_net::{DevId, IfId, Network, device_name, interface_name};
 use np_space::Header;

@@ -4,11 +4,11 @@ use Rattle.std.specs.Prelude.{MatchOption, IsSome}
 use Rattle.np_outside.specs.Files.{Files}
 use Rattle.np_space.specs.declared.headers.Header.{Header}
 use Rattle.np_acl_read.specs.declared.config.Config.{Config}
-use Rattle.np_atomizer.specs.Atoms.{cut_sets}
+use Rattle.np_atoms.specs.Atoms.{cut_sets}
 use Rattle.np_net.specs.Plan.{Plan}
 use Rattle.np_net.specs.declared.filtering.Goal.{Goal}
 use Rattle.np_net.specs.declared.filtering.Interface.{Interface}
-use Rattle.np_net_read.specs.Canonical.{net_text}
+use Rattle.np_net_text.specs.Canonical.{net_text}
 use Rattle.np_cut.specs.Applying.{applied_of, slot_lets}
 use Rattle.np_goals.specs.Cases.{goal_at}
 use Rattle.np_goals.specs.Verdicts.{IsVerdict}

@@ -79,7 +79,7 @@ module _ (net : Plan) (network : IsNetwork net) where
   auth_places : (from here : ℕ) (pred : Pred) (broken : AuthBroken) → from < length net.areas → here < length net.areas → auth.IsBroken net from here pred broken → HasAuthPlaces net broken
   auth_places from here pred (A0Area a) from_in here_in (inl is) = let same : a ≡ from = is.1 in omega arith
   auth_places from here pred (A0Area a) from_in here_in (inr is) = let same : a ≡ here = is.2 in omega arith
-  auth_places from here pred (A0Interface i) from_in here_in is = is.1.foreign.within
+  auth_places from here pred (A0Interface i) from_in here_in is = is.1.holds.within
   auth_places from here pred (A1 a h) from_in here_in is = is.1.least.has.within
   auth_places from here pred (A2 i mark h) from_in here_in is =
       let lets = is.2.marked.least.has in (lets.within, mark_within i mark lets.forgeable)

@@ -12,7 +12,7 @@ use Rattle.np_net.specs.declared.filtering.Interface.{Interface}
 use Rattle.np_net.specs.declared.paths.Path.{Path}
 use Rattle.np_flow.specs.Carrying.{IsFirstPath}
 use Rattle.np_cut.specs.Applying.{applied_of, slot_lets}
-use Rattle.np_atomizer.specs.Atoms.{cut_sets}
+use Rattle.np_atoms.specs.Atoms.{cut_sets}
 use Rattle.np_goals.specs.Cases.{goal_at}
 use Rattle.np_goals.specs.Verdicts.{IsVerdict}
 use Rattle.np_goals.specs.declared.verdicts.Verdict.{Verdict}

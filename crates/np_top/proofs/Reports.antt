@@ -4,8 +4,6 @@ use Rattle.std.specs.List.{All, AllByRecursion}
 use Rattle.std.proofs.lemmas.List.{get_or_default, get_or-map, length-map}
 use Rattle.std.proofs.lemmas.List.Elements.{All-from_recursion}
 use Rattle.np_space.specs.declared.headers.Header.{Header}
-use Rattle.np_atomizer.specs.Atoms.{cut_sets, leasts_of}
-use Rattle.np_atomizer.specs.declared.atom_list.Atom.{Atom}
 use Rattle.np_net.specs.Path.{Leads, area_of}
 use Rattle.np_net.specs.declared.filtering.Goal.{Goal}
 use Rattle.np_net.specs.declared.filtering.Interface.{Interface}
@@ -94,18 +92,3 @@ verdicts_within interfaces lets goals vs count right = λ k d within.
     let here : k < length goals = omega arith in
     let goal : Goal = record { from = 0; to = 0; only = false; pred = Any } in
     subst (HasInterfaces interfaces) (get_or_default vs k Holds d within) (verdict_within interfaces lets (goal_at goals goal k) (get_or vs k Holds) (right k goal here))
-
--- ---- the atoms
-
-cut_lengths : (tests : List (Header → Bool)) (leasts : List Header) (k : ℕ) → k < length (cut_sets tests leasts) → length (get_or (cut_sets tests leasts) k []) ≡ length leasts
-cut_lengths tests leasts k within =
-    let here : k < length tests = omega (arith, length-map tests (λ test. map test leasts)) in
-    let d : Header → Bool = λ h. false in
-    ap length (get_or-map (λ test. map test leasts) tests k d [] here) ∙ length-map leasts (get_or tests k d)
-
--- each cut's set is of all atoms
-pub set_lengths : {R : Type 0} (tests : List (Header → Bool)) (atoms : List (Atom R)) (sets : List (List Bool)) → sets ≡ cut_sets tests (leasts_of atoms) →
-    (k : ℕ) → k < length sets → length (get_or sets k []) ≡ length atoms
-set_lengths tests atoms sets are k within =
-    let here : k < length (cut_sets tests (leasts_of atoms)) = subst (λ s. k < length s) are within in
-    ap (λ s. length (get_or s k [])) are ∙ cut_lengths tests (leasts_of atoms) k here ∙ length-map atoms (λ a. a.least)

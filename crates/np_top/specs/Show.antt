@@ -1,7 +1,7 @@
 -- What `show` writes.
 use Rattle.std.specs.Prelude.{◌≡◌, ℕ, List}
 use Rattle.np_net.specs.Plan.{Plan}
-use Rattle.np_net_read.specs.Canonical.{net_text}
+use Rattle.np_net_text.specs.Canonical.{net_text}
 use Rattle.np_top.specs.declared.status.Status.{Status}
 use Rattle.np_top.specs.declared.status.Status.TheVariants.{Holds}
 

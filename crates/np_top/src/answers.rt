@@ -7,10 +7,11 @@ ghost use Rattle.np_space.specs.Classes.{AreLeasts};
 ghost use Rattle.np_region.specs.Keeping.{KeepsRegions};
 ghost use Rattle.np_net.specs.declared.associations.IpGoal.{IpGoal as Aim};
 ghost use Rattle.np_net.specs.declared.filtering.Goal.{Goal};
-ghost use Rattle.np_atomizer.specs.Atoms.{AreAtoms, atoms_in, sets_in};
+ghost use Rattle.np_atoms.specs.Atoms.{AreAtoms};
 ghost use Rattle.np_cut.specs.Applying.{slot_lets};
 ghost use Rattle.np_cut.specs.FilterCuts.{filter_tests};
 ghost use Rattle.np_ipgoals.specs.Cuts.{ipsec_tests};
+ghost use Rattle.np_ipgoals.specs.Findings.{AreFindings};
 ghost use Rattle.np_goals.specs.Cases.{goal_at};
 ghost use Rattle.np_goals.specs.Verdicts.{IsVerdict};
 ghost use Rattle.np_goals.specs.declared.verdicts.Verdict.TheVariants as verdict;
@@ -36,17 +37,17 @@ use crate::report::{
 };
 use crate::status::Status;
 use np_acl_read::Config;
-use np_atomizer::{Atoms, atomize};
+use np_atomizer::Atomizer;
+use np_atoms::Atoms;
 use np_auth::check_auth;
 use np_conf::check_conf;
 use np_cut::{Applied, apply, filter_cuts};
 use np_goals::{Verdict, case_of, judge};
-use np_ipgoals::ipsec_cuts;
+use np_ipgoals::{Findings, findings, ipsec_cuts};
 use np_ipsec_report::IpAnswer;
 use np_load::{Halt, Inputs, Play, load_inputs, load_net, load_play};
 use np_net::{IpGoal, Network};
 use np_outside::Shelf;
-use np_region::Regions;
 use np_script::Script;
 use np_space::Header;
 use np_synth::{SynthError, synthesise};
@@ -65,21 +66,21 @@ pub enum Fault {
 }
 
 /// The atoms of a network's filter cuts.
-fn filter_atoms<G: Regions>(
+fn filter_atoms<G: Atomizer>(
     alloc: Global,
     store: &mut G,
     net: &Network,
     applied: &Applied,
-) -> Result<Atoms<G::R>, AllocError>
+) -> Result<Atoms, AllocError>
     ensures kept { KeepsRegions G.fits G.has_header store.old store.new }
-    ensures atoms { IfOk result (λ atoms. AreAtoms G.fits G.has_header store.new (filter_tests applied.now.lists net.now.goals) (atoms_in atoms) (sets_in atoms)) }
+    ensures atoms { IfOk result (λ atoms. AreAtoms (filter_tests applied.now.lists net.now.goals) atoms) }
 {
     let cuts = filter_cuts(alloc, store, net, applied)?;
-    atomize(alloc, store, cuts.as_slice())
+    Ok(store.atomize(alloc, cuts.as_slice())?.atoms)
 }
 
 /// The verdict on each goal of a network, by the configurations of its devices.
-fn verdicts<G: Regions>(
+fn verdicts<G: Atomizer>(
     alloc: Global,
     store: &mut G,
     net: &Network,
@@ -91,12 +92,12 @@ fn verdicts<G: Regions>(
 {
     let applied = apply(alloc, net, configs)?;
     let atoms = filter_atoms(alloc, store, net, &applied)?;
-    let case = case_of(alloc, store, net, &applied, &atoms)?;
+    let case = case_of(alloc, net, &applied, atoms)?;
     Ok(judge(alloc, net, &case)?)
 }
 
 /// The answer to `check`: the report on the goals.
-fn check<G: Regions>(alloc: Global, store: &mut G, inputs: Inputs) -> Result<Answer, AllocError>
+fn check<G: Atomizer>(alloc: Global, store: &mut G, inputs: Inputs) -> Result<Answer, AllocError>
     ensures report { IfOk result (λ answer. IsCheckReportOn (inputs_in inputs) answer.text answer.status) }
     ensures settled { IfOk result (λ answer. IsSettled answer.status × (answer.status ≢ Status.Usage)) }
     ensures kept { KeepsRegions G.fits G.has_header store.old store.new }
@@ -107,7 +108,7 @@ fn check<G: Regions>(alloc: Global, store: &mut G, inputs: Inputs) -> Result<Ans
 }
 
 /// The answer to `atoms`: the report on the atoms.
-fn atoms<G: Regions>(alloc: Global, store: &mut G, inputs: Inputs) -> Result<Answer, AllocError>
+fn atoms<G: Atomizer>(alloc: Global, store: &mut G, inputs: Inputs) -> Result<Answer, AllocError>
     ensures report { IfOk result (λ answer. IsAtomsReportOn (inputs_in inputs) answer.text answer.status) }
     ensures settled { IfOk result (λ answer. IsSettled answer.status × (answer.status ≢ Status.Usage)) }
     ensures kept { KeepsRegions G.fits G.has_header store.old store.new }
@@ -119,7 +120,7 @@ fn atoms<G: Regions>(alloc: Global, store: &mut G, inputs: Inputs) -> Result<Ans
 }
 
 /// What is written of a synthesis for a network, by the configurations of its devices.
-fn synthesis<G: Regions>(
+fn synthesis<G: Atomizer>(
     alloc: Global,
     store: &mut G,
     net: &Network,
@@ -133,7 +134,7 @@ fn synthesis<G: Regions>(
     let _ = &net.free;
     let applied = apply(alloc, net, configs)?;
     let atoms = filter_atoms(alloc, store, net, &applied)?;
-    let case = case_of(alloc, store, net, &applied, &atoms)?;
+    let case = case_of(alloc, net, &applied, atoms)?;
     match synthesise(alloc, net, &case) {
         Ok(chosen) => Ok(chosen_report(alloc, net, case.leasts.as_slice(), &chosen)?),
         Err(SynthError::Unattainable { goal, header, path }) => {
@@ -144,7 +145,7 @@ fn synthesis<G: Regions>(
 }
 
 /// The answer to `synth`: the report on a synthesis.
-fn synth<G: Regions>(alloc: Global, store: &mut G, inputs: Inputs) -> Result<Answer, Halt>
+fn synth<G: Atomizer>(alloc: Global, store: &mut G, inputs: Inputs) -> Result<Answer, Halt>
     ensures report { IfOk result (λ answer. IsSynthesisReportOn (inputs_in inputs) answer.text answer.status) }
     ensures settled { IfOk result (λ answer. IsSettled answer.status × (answer.status ≢ Status.Usage)) }
     ensures memory { (halt : Ended) → IsErrOf result halt → halt ≡ halts.Memory }
@@ -200,14 +201,21 @@ fn trace(alloc: Global, play: Play) -> Result<Answer, AllocError>
 }
 
 /// The answer on an IPsec goal.
-fn ip_answer(net: &Network, leasts: &[Header], k: usize) -> IpAnswer
+fn ip_answer(net: &Network, leasts: &[Header], found: &Findings, k: usize) -> IpAnswer
     requires goal { k < length net.now.ipgoals }
     requires leasts { AreLeasts (ipsec_tests net.now) leasts.now }
+    requires found { AreFindings net.now leasts.now found.now }
     ensures right { (goal : Aim) → slice_get net.now.ipgoals k ≡ Some goal → IsRightAnswer net.now goal result }
 {
     match &net.ipgoals.as_slice()[k] {
-        IpGoal::Auth { .. } => IpAnswer::Auth(check_auth(net, leasts, k)),
-        IpGoal::Conf { .. } => IpAnswer::Conf(check_conf(net, leasts, k)),
+        IpGoal::Auth { .. } => match &found.passages {
+            Some(passages) => IpAnswer::Auth(check_auth(net, leasts, passages, k)),
+            None => unreachable!(),
+        },
+        IpGoal::Conf { .. } => match &found.outlets {
+            Some(outlets) => IpAnswer::Conf(check_conf(net, leasts, outlets, k)),
+            None => unreachable!(),
+        },
     }
 }
 
@@ -220,30 +228,30 @@ fn ip_answers(
     requires { AreLeasts (ipsec_tests net.now) leasts.now }
     ensures { IfOk result (λ answers. AreRightAnswers net.now net.now.ipgoals answers) }
 {
+    let found = findings(alloc, net, leasts)?;
     let mut answers = Items::new(alloc);
     for k in 0..net.ipgoals.len() {
-        answers.push(ip_answer(net, leasts, k))?;
+        answers.push(ip_answer(net, leasts, &found, k))?;
     }
     Ok(answers)
 }
 
 /// The least headers of the classes that no rule, no IPsec goal and no area tells apart.
-fn ip_leasts<G: Regions>(
+fn ip_leasts<G: Atomizer>(
     alloc: Global,
     store: &mut G,
     net: &Network,
-) -> Result<Vec<Header>, AllocError>
+) -> Result<Items<Header>, AllocError>
     ensures kept { KeepsRegions G.fits G.has_header store.old store.new }
-    ensures leasts { IfOk result (λ leasts. AreLeasts (ipsec_tests net.now) leasts.items) }
+    ensures leasts { IfOk result (λ leasts. AreLeasts (ipsec_tests net.now) leasts) }
 {
     let cuts = ipsec_cuts(alloc, store, net)?;
-    let atoms = atomize(alloc, store, cuts.as_slice())?;
-    atoms.leasts(alloc)
+    Ok(store.atomize(alloc, cuts.as_slice())?.atoms.leasts)
 }
 
 /// The answer to `ipsec`: the report on the IPsec goals.
 #[tactic(auto, using(crate::proofs::IpsecLaws::ipsec_settled))]
-fn ipsec<G: Regions>(alloc: Global, store: &mut G, net: Network) -> Result<Answer, AllocError>
+fn ipsec<G: Atomizer>(alloc: Global, store: &mut G, net: Network) -> Result<Answer, AllocError>
     ensures report { IfOk result (λ answer. IsIpsecReport net answer.text answer.status) }
     ensures settled { IfOk result (λ answer. IsSettled answer.status × (answer.status ≢ Status.Usage)) }
     ensures kept { KeepsRegions G.fits G.has_header store.old store.new }
@@ -262,7 +270,7 @@ fn show(alloc: Global, net: Network) -> Result<Answer, AllocError>
 }
 
 /// The answer to a command over files that are not refused.
-fn answer<G: Regions, S: Shelf>(
+fn answer<G: Atomizer, S: Shelf>(
     alloc: Global,
     store: &mut G,
     shelf: &mut S,
@@ -306,7 +314,7 @@ fn answer<G: Regions, S: Shelf>(
 }
 
 /// What is written for a command: its answer, or the line that refuses a file.
-pub fn respond<G: Regions, S: Shelf>(
+pub fn respond<G: Atomizer, S: Shelf>(
     alloc: Global,
     store: &mut G,
     shelf: &mut S,

@@ -2,8 +2,7 @@
 
 ghost use Rattle.std.specs.Prelude.{◌≡◌, ◌<◌, [], ℕ, length, slice_index_or, IfOk, if◌then◌else◌};
 ghost use Rattle.std.specs.List.{All};
-ghost use Rattle.np_atomizer.specs.Atoms.{atoms_in, leasts_of, sets_in};
-ghost use Rattle.np_net_read.specs.Canonical.{net_text};
+ghost use Rattle.np_net_text.specs.Canonical.{net_text};
 ghost use Rattle.np_report.specs.Atoms.{atoms_text};
 ghost use Rattle.np_report.specs.Verdicts.{HasInterfaces, is_holding, verdicts_text};
 ghost use Rattle.np_report.specs.Verdicts as verdict_texts;
@@ -16,14 +15,14 @@ ghost use Rattle.np_top.specs.Report.{verdicts_status};
 ghost use Rattle.np_top.specs.Trace.{replay_status};
 
 use crate::status::Status;
-use np_atomizer::Atoms;
+use np_atoms::Atoms;
 use np_auth::Answer as AuthAnswer;
 use np_conf::Answer as ConfAnswer;
 use np_cut::Applied;
 use np_goals::Verdict;
 use np_ipsec_report::{IpAnswer, put_answers, put_replay};
 use np_net::{Network, Path};
-use np_net_read::put_net;
+use np_net_text::put_net;
 use np_report::{put_atoms, put_chosen, put_unattainable, put_verdicts};
 use np_space::Header;
 use np_synth::Chosen;
@@ -52,14 +51,14 @@ pub fn canonical(alloc: Global, net: &Network) -> Result<Answer, AllocError>
 }
 
 /// The report on atoms.
-pub fn atoms_report<R: Drop>(
+pub fn atoms_report(
     alloc: Global,
     net: &Network,
     applied: &Applied,
-    atoms: &Atoms<R>,
+    atoms: &Atoms,
 ) -> Result<Answer, AllocError>
-    requires sets { (k : ℕ) → k < length (sets_in atoms.now) → length (slice_index_or (sets_in atoms.now) k []) ≡ length (atoms_in atoms.now) }
-    ensures text { IfOk result (λ answer. answer.text ≡ atoms_text net.now applied.now.names (sets_in atoms.now) (leasts_of (atoms_in atoms.now))) }
+    requires sets { (k : ℕ) → k < length atoms.now.cuts → length (slice_index_or atoms.now.cuts k []) ≡ length atoms.now.leasts }
+    ensures text { IfOk result (λ answer. answer.text ≡ atoms_text net.now applied.now.names atoms.now.cuts atoms.now.leasts) }
     ensures status { IfOk result (λ answer. answer.status ≡ Status.Holds) }
 {
     let mut text = Vec::new(alloc);

@@ -14,9 +14,9 @@ ghost use Rattle.np_top.specs.Written.{Took, TookPrefix};
 use crate::answers::{Fault, respond};
 use crate::commands::{Command, parse};
 use crate::status::Status;
+use np_atomizer::Atomizer;
 use np_bdd::Diagrams;
 use np_outside::{Shelf, Sink, write_all};
-use np_region::Regions;
 use std::alloc::Global;
 use std::thread::Threads;
 
@@ -35,7 +35,7 @@ fn write<K: Sink>(sink: &mut K, text: &[u8], status: Status) -> Status
 }
 
 /// Runs a command over the files of the shelf, and writes its text to the sink.
-fn run_command<G: Regions, S: Shelf, K: Sink>(
+fn run_command<G: Atomizer, S: Shelf, K: Sink>(
     alloc: Global,
     store: &mut G,
     command: Command,
@@ -87,7 +87,7 @@ fn run_command<G: Regions, S: Shelf, K: Sink>(
 /// regions, and writes its text to the sink. The regions of the store stay as they are.
 ///
 /// The commands are those of [`run`], which makes a store of its own.
-pub fn run_in<R: Threads + Sync, G: Regions, S: Shelf, K: Sink>(
+pub fn run_in<R: Threads + Sync, G: Atomizer, S: Shelf, K: Sink>(
     rt: &R,
     alloc: Global,
     store: &mut G,

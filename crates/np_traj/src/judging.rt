@@ -1,31 +1,16 @@
 //! Why motions are refused, by the place of the packet.
 
 ghost use Rattle.std.specs.Prelude.{◌≡◌, ◌<◌, IfSome, length};
-ghost use Rattle.np_net.specs.Path as path;
 ghost use Rattle.np_stack.specs.HeaderStack as stacks;
 ghost use Rattle.np_ipsec.specs.Steps.{IsPlace, top_in};
 ghost use Rattle.np_traj.specs.Refusals as refusals;
 ghost use Rattle.np_traj.specs.States.{IsStateOf};
 
 use crate::states::{Illegal, State};
-use np_ipsec::{Place, Top, in_action, is_trusted, out_action, pops, secret, sound};
-use np_net::{AreaId, DevId, IfId, InAction, Network, OutAction, SaId};
-
-/// The area that an interface is on.
-pub(crate) fn area_of(net: &Network, i: IfId) -> AreaId
-    requires { i < length net.now.interfaces }
-    ensures { result ≡ path.area_of net.now.interfaces i }
-{
-    net.interfaces.as_slice()[i as usize].area
-}
-
-/// The device that an interface belongs to.
-fn device_of(net: &Network, i: IfId) -> DevId
-    requires { i < length net.now.interfaces }
-    ensures { result ≡ path.device_of net.now.interfaces i }
-{
-    net.interfaces.as_slice()[i as usize].device
-}
+use np_ipsec::{
+    Place, Top, area_of, device_of, in_action, is_trusted, out_action, pops, secret, sound,
+};
+use np_net::{IfId, InAction, Network, OutAction, SaId};
 
 /// The outermost header of a packet.
 fn top_in<const N: usize>(state: &State<N>) -> Top

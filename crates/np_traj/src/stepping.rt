@@ -12,10 +12,10 @@ ghost use Rattle.np_ipsec.specs.Steps as model;
 ghost use Rattle.np_traj.specs.States as states;
 
 use crate::judging::{
-    area_of, cross_refusal, enter_refusal, leave_refusal, pop_refusal, unentitled_push_refusal,
+    cross_refusal, enter_refusal, leave_refusal, pop_refusal, unentitled_push_refusal,
 };
 use crate::states::{Illegal, State};
-use np_ipsec::{Motion, Place, is_trusted};
+use np_ipsec::{Motion, Place, area_of, is_trusted};
 use np_net::{IfId, Network, SaId};
 
 /// Into a device, by an interface of the area.

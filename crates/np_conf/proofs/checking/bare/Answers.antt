@@ -1,19 +1,19 @@
-use Rattle.std.proofs.Common.{◌≡◌, ◌<◌, length, inl, inr, arith, ap, subst, ◌∙◌}
-use Rattle.std.proofs.lemmas.Bool.{cases_lt}
-use Rattle.np_conf.specs.Rules.{LetsOutBare}
+use Rattle.std.proofs.Common.{subst}
+use Rattle.np_conf.specs.Sets.{FindsOutlet}
+use Rattle.np_conf.proofs.OutletLaws.{outlet_first, outlet_least, outlet_none}
 use Rattle.np_conf.proofs.checking.bare.Goals as goal
 
-pub loop-i-preserved : goal.loop-i-preserved
-loop-i-preserved c = λ n upto h lets.
-    elim (cases_lt n c.loop-i.i) [
-      | inl earlier ↦ c.loop-i.invariant n earlier h lets
-      | inr later ↦
-          (let here : n ≡ c.loop-i.i = omega arith in
-          c.in_default.ensures.none h (subst (λ j. LetsOutBare c.args.net.now c.args.from c.args.pred.now j h) here lets))
-    ]
-
 pub returns-clause-none : goal.returns-clause-none
-returns-clause-none c = λ n h lets.
-    let within : n < length c.args.net.now.interfaces = lets.way.at.within in
-    let count : c.len-i-end.result ≡ length c.args.net.now.interfaces = c.len-i-end.ensures ∙ ap (λ net. length net.interfaces) c.net.view_is in
-    c.loop-i.invariant n (omega arith) h lets
+returns-clause-none c =
+    outlet_none c.args.net.now c.args.from c.args.pred.now c.requires.from c.requires.goal c.args.leasts.now c.requires.leasts c.args.outlets.now.ways c.requires.outlets.ways c.first_outlet.result
+    (subst (λ list. FindsOutlet list c.args.net.now c.args.from c.args.pred.now c.args.leasts.now c.first_outlet.result) c.as_slice.ensures c.first_outlet.ensures)
+
+pub returns-clause-first : goal.returns-clause-first
+returns-clause-first c =
+    outlet_first c.args.net.now c.args.from c.args.pred.now c.requires.from c.requires.goal c.args.leasts.now c.requires.leasts c.args.outlets.now.ways c.requires.outlets.ways c.first_outlet.result
+    (subst (λ list. FindsOutlet list c.args.net.now c.args.from c.args.pred.now c.args.leasts.now c.first_outlet.result) c.as_slice.ensures c.first_outlet.ensures)
+
+pub returns-clause-least : goal.returns-clause-least
+returns-clause-least c =
+    outlet_least c.args.net.now c.args.from c.args.pred.now c.requires.from c.requires.goal c.args.leasts.now c.requires.leasts c.args.outlets.now.ways c.requires.outlets.ways c.first_outlet.result
+    (subst (λ list. FindsOutlet list c.args.net.now c.args.from c.args.pred.now c.args.leasts.now c.first_outlet.result) c.as_slice.ensures c.first_outlet.ensures)

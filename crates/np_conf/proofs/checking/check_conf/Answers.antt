@@ -1,23 +1,10 @@
 use Rattle.std.proofs.Common.{◌≡◌, ◌∙◌, get_or, ap, sym, subst}
 use Rattle.std.proofs.lemmas.List.{get_or_default}
-use Rattle.std.proofs.lemmas.List.Elements.{Contains-get_or}
-use Rattle.std.specs.List.{Contains}
 use Rattle.np_pred.specs.declared.predicate.Pred.TheVariants as predicates
 use Rattle.np_net.specs.declared.associations.IpGoal.TheVariants as goals
 use Rattle.np_conf.specs.Answers.{IsAnswerTo, ipgoal_at}
-use Rattle.np_conf.specs.Cuts.{goal_pred}
 use Rattle.np_conf.proofs.AnswerLaws.{yes_safe}
 use Rattle.np_conf.proofs.checking.check_conf.Goals as goal
-
-pub check-requires-clause-goal : goal.check-requires-clause-goal
-check-requires-clause-goal c =
-    let listed : c.as_slice.result.now ≡ c.args.net.now.ipgoals = c.as_slice.ensures ∙ ap (λ net. net.ipgoals) c.net.view_is in
-    let at = c.index-as_slice-goal.is ∙ ap (λ l. get_or l c.args.goal c.index-as_slice-goal.result) listed in
-    record {
-      goal = c.index-as_slice-goal.result;
-      listed = subst (λ g. Contains c.args.net.now.ipgoals g) (sym at) (Contains-get_or c.args.net.now.ipgoals c.args.goal c.index-as_slice-goal.result c.requires.goal);
-      same = ap goal_pred c.in-Conf.is;
-    }
 
 pub returns-clause-safe : goal.returns-clause-safe
 returns-clause-safe c = λ e depth.

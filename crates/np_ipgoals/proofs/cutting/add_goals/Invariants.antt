@@ -1,5 +1,5 @@
 use Rattle.std.proofs.Common.{◌≡◌, ◌++◌, map, take}
-use Rattle.np_ipgoals.specs.Cuts.{goal_pred}
+use Rattle.np_ipsec.specs.Goals.{goal_pred}
 use Rattle.np_ipgoals.proofs.cutting.add_goals.Given as goal
 
 abbrev pub invariant-loop-goal : goal.invariant-loop-goal

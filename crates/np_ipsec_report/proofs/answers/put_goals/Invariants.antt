@@ -1,5 +1,5 @@
 use Rattle.std.proofs.Common.{◌≡◌, ◌+◌, ◌++◌, drop}
-use Rattle.np_net_read.specs.CanonicalText.{lines_text}
+use Rattle.np_net_text.specs.CanonicalText.{lines_text}
 use Rattle.np_ipsec_report.specs.Answers.{answer_lines}
 use Rattle.np_ipsec_report.proofs.answers.put_goals.Given as goal
 

@@ -1,7 +1,7 @@
 use Rattle.std.proofs.Common.{◌++◌, ap, sym, ◌∙◌}
 use Rattle.std.proofs.lemmas.List.Folds.{flat_map-map}
-use Rattle.np_net_read.specs.CanonicalText.{line_text}
-use Rattle.np_net_read.proofs.CanonicalLaws.{all_taken}
+use Rattle.np_net_text.specs.CanonicalText.{line_text}
+use Rattle.np_net_text.proofs.CanonicalLaws.{all_taken}
 use Rattle.np_ipsec_report.specs.Replays.{breach_words}
 use Rattle.np_ipsec_report.proofs.replays.put_breaches.Goals as goal
 

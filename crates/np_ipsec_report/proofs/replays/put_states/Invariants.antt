@@ -1,5 +1,5 @@
 use Rattle.std.proofs.Common.{◌≡◌, ◌++◌, drop}
-use Rattle.np_net_read.specs.CanonicalText.{lines_text}
+use Rattle.np_net_text.specs.CanonicalText.{lines_text}
 use Rattle.np_ipsec_report.specs.Replays.{state_lines}
 use Rattle.np_ipsec_report.proofs.replays.put_states.Given as goal
 

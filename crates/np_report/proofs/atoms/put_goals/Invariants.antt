@@ -1,5 +1,5 @@
 use Rattle.std.proofs.Common.{◌≡◌, ◌+◌, ◌++◌, drop}
-use Rattle.np_net_read.specs.CanonicalText.{lines_text}
+use Rattle.np_net_text.specs.CanonicalText.{lines_text}
 use Rattle.np_report.specs.Atoms.{goal_lines}
 use Rattle.np_report.proofs.atoms.put_goals.Given as goal
 

@@ -1,5 +1,5 @@
 use Rattle.std.proofs.Common.{◌≡◌, ◌+◌, ◌++◌, drop}
-use Rattle.np_net_read.specs.CanonicalText.{lines_text}
+use Rattle.np_net_text.specs.CanonicalText.{lines_text}
 use Rattle.np_report.specs.Atoms.{list_lines}
 use Rattle.np_report.proofs.atoms.put_lists.Given as goal
 

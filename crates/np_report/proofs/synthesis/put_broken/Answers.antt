@@ -1,6 +1,6 @@
 use Rattle.std.proofs.Common.{codes}
 use Rattle.std.specs.Fmt.{decimal}
-use Rattle.np_report.specs.Words.{header_words}
+use Rattle.np_script.specs.Written.{header_words}
 use Rattle.np_report.proofs.SynthesisLaws.{broken_made}
 use Rattle.np_report.proofs.synthesis.put_broken.Goals as goal
 

@@ -1,6 +1,6 @@
 use Rattle.std.proofs.Common.{◌≡◌, ◌++◌, drop}
 use Rattle.std.specs.List.{flat_map}
-use Rattle.np_net_read.specs.CanonicalText.{lines_text}
+use Rattle.np_net_text.specs.CanonicalText.{lines_text}
 use Rattle.np_report.specs.Synthesis.{drop_lines}
 use Rattle.np_report.proofs.synthesis.put_drops.Given as goal
 

@@ -1,6 +1,7 @@
 use Rattle.std.proofs.Common.{◌∷◌, ◌+◌, codes}
 use Rattle.std.specs.Fmt.{decimal}
-use Rattle.np_report.specs.Words.{header_words, hop_lines}
+use Rattle.np_script.specs.Written.{header_words}
+use Rattle.np_report.specs.Words.{hop_lines}
 use Rattle.np_report.proofs.SynthesisLaws.{unattainable_made}
 use Rattle.np_report.proofs.synthesis.unattainable_report.Goals as goal
 

@@ -1,6 +1,6 @@
 use Rattle.std.proofs.Common.{◌++◌, ap, sym, ◌∙◌}
-use Rattle.np_net_read.specs.CanonicalText.{line_text}
-use Rattle.np_net_read.proofs.CanonicalLaws.{all_taken}
+use Rattle.np_net_text.specs.CanonicalText.{line_text}
+use Rattle.np_net_text.proofs.CanonicalLaws.{all_taken}
 use Rattle.np_report.specs.Words.{hop_words}
 use Rattle.np_report.proofs.TextLaws.{hop_lines_appended}
 use Rattle.np_report.proofs.words.put_hops.Goals as goal

@@ -1,6 +1,6 @@
 use Rattle.std.proofs.Common.{◌≡◌, ◌++◌, take}
 use Rattle.std.specs.List.{flat_map}
-use Rattle.np_net_read.specs.CanonicalText.{line_text}
+use Rattle.np_net_text.specs.CanonicalText.{line_text}
 use Rattle.np_report.specs.Words.{hop_words}
 use Rattle.np_report.proofs.words.put_hops.Given as goal
 

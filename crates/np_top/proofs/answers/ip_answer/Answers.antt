@@ -6,10 +6,10 @@ use Rattle.np_top.proofs.IpsecAnswers.{auth_right, conf_right}
 use Rattle.np_top.proofs.answers.ip_answer.Goals as goal
 
 pub check_auth-requires-clause-leasts : goal.check_auth-requires-clause-leasts
-check_auth-requires-clause-leasts c = leasts_serve.for_auth c.args.net.now c.args.leasts.now c.requires.leasts
+check_auth-requires-clause-leasts c = leasts_serve c.args.net.now c.args.leasts.now c.requires.leasts
 
 pub check_conf-requires-clause-leasts : goal.check_conf-requires-clause-leasts
-check_conf-requires-clause-leasts c = leasts_serve.for_conf c.args.net.now c.args.leasts.now c.requires.leasts
+check_conf-requires-clause-leasts c = leasts_serve c.args.net.now c.args.leasts.now c.requires.leasts
 
 pub returns-in-Auth : goal.returns-in-Auth
 returns-in-Auth c =

@@ -1,7 +1,0 @@
-use Rattle.std.proofs.Common.{◌≡◌, take}
-use Rattle.np_region.specs.Keeping.{tests_of}
-use Rattle.np_atomizer.specs.Atoms.{leasts_of, cut_sets}
-use Rattle.np_atomizer.proofs.cutting.sets_of.Given as goal
-
-abbrev pub invariant-loop-cut : goal.invariant-loop-cut
-invariant-loop-cut g l = l.sets ≡ cut_sets (tests_of g.S.Regions.has_header l.store (take l.cut-index l.cuts)) (leasts_of l.atoms)

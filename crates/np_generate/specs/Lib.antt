@@ -1,0 +1,5 @@
+pub mod Drawing
+pub mod Drawn
+pub mod NetLines
+pub mod ConfigLines
+pub mod Generated

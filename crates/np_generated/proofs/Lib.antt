@@ -1,0 +1,6 @@
+mod DrawnLaws
+mod EntryLaws
+mod ConfigLaws
+mod NetWords
+mod NetMade
+mod NetLaws

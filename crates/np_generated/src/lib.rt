@@ -1,0 +1,4 @@
+//! What the texts of a generated network say.
+#![tactic(auto)]
+
+pub mod laws;

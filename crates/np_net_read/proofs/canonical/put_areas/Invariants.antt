@@ -1,8 +1,0 @@
-use Rattle.std.proofs.Common.{◌≡◌, ◌++◌, take}
-use Rattle.std.specs.List.{flat_map}
-use Rattle.np_net_read.specs.Canonical as canonical
-use Rattle.np_net_read.specs.CanonicalText.{line_text}
-use Rattle.np_net_read.proofs.canonical.put_areas.Given as goal
-
-abbrev pub invariant-loop-area : goal.invariant-loop-area
-invariant-loop-area l = l.out.items ≡ l.initial.out.items ++ flat_map (λ area. line_text (canonical.area_words area)) (take l.area-index l.areas)

@@ -1,8 +1,0 @@
-use Rattle.std.proofs.Common.{◌≡◌, ◌++◌, take}
-use Rattle.std.specs.List.{flat_map}
-use Rattle.np_net_read.specs.Canonical as canonical
-use Rattle.np_net_read.specs.CanonicalText.{line_text}
-use Rattle.np_net_read.proofs.canonical_ipsec.put_out_rules.Given as goal
-
-abbrev pub invariant-loop-rule : goal.invariant-loop-rule
-invariant-loop-rule l = l.out.items ≡ l.initial.out.items ++ flat_map (λ rule. line_text (canonical.out_rule_words l.net l.interface rule)) (take l.rule-index l.rules)

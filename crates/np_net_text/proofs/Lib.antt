@@ -1,0 +1,11 @@
+pub mod CanonicalLaws
+pub mod ChainLaws
+pub mod FreeLines
+pub mod IpsecLines
+pub mod ParallelLaws
+pub mod PlainForms
+pub mod PlainIpsec
+pub mod PlainLines
+pub mod PlainWords
+pub mod StatementLines
+pub mod TextBackLaws

@@ -1,0 +1,10 @@
+pub mod BitLaws
+pub mod DiagramLaws
+pub mod LeastLaws
+pub mod MemoLaws
+pub mod NodePlaceLaws
+pub mod PairLaws
+pub mod PlaceLaws
+pub mod ProductLaws
+pub mod RegionLaws
+pub mod SetLaws

@@ -1,8 +1,8 @@
 -- What is known after one more line.
-use Rattle.std.proofs.Common.{◌≡◌, ℕ, Bool, true, false, List, [], ◌∷◌, ◌++◌, map, reverse, Option, Some, None, refl, sym, ap, ◌∙◌, append-nil, append_assoc}
-use Rattle.std.specs.Prelude.{not, ◌||◌, fold, Ok, Err, if◌then◌else◌}
-use Rattle.std.specs.List.{cons_option, filter_map, find, list_any, take_while}
-use Rattle.std.specs.Option.{option_map_or, option_to_list}
+use Rattle.std.proofs.Common.{◌≡◌, ℕ, Bool, true, false, List, [], ◌∷◌, ◌++◌, reverse, Option, Some, None, refl, sym, ap, ◌∙◌, append-nil, append_assoc}
+use Rattle.std.specs.Prelude.{not, ◌||◌, fold, Ok, if◌then◌else◌}
+use Rattle.std.specs.List.{cons_option, filter_map, list_any, take_while}
+use Rattle.std.specs.Option.{option_to_list}
 use Rattle.std.proofs.lemmas.List.{reverse-append}
 use Rattle.std.proofs.lemmas.List.Elements.{filter_map-append}
 use Rattle.std.proofs.lemmas.List.Sums.{take_while-cons}
@@ -11,21 +11,19 @@ use Rattle.np_acl_read.specs.declared.declared.Declared.{Declared}
 use Rattle.np_acl_read.specs.declared.statement.Statement.{Statement}
 use Rattle.np_acl_read.specs.Adding.{added}
 use Rattle.np_acl_read.specs.Declaring.{declared_by_config, with_name}
-use Rattle.np_acl_read.proofs.DeclarationLaws.{declared_first, declared_one_more}
-use Rattle.np_notes.specs.declared.context.Context.{Context}
-use Rattle.np_notes.specs.declared.group_line.GroupLine.{GroupLine}
+use Rattle.np_acl_read.proofs.DeclarationLaws.{declared_one_more}
 use Rattle.np_notes.specs.declared.note.Note.{Note}
 use Rattle.np_notes.specs.declared.walk.Findings.{Findings}
 use Rattle.np_notes.specs.declared.walk.Walk.{Walk}
 use Rattle.np_notes.specs.Foreign.{begins_foreign_list, goes_on, is_foreign_open, is_outer}
 use Rattle.np_notes.specs.Kinds.{is_interface_kind}
 use Rattle.np_notes.specs.LineNotes.{has_strayed, line_notes, line_notes_after, note_of_line, note_of_shape}
-use Rattle.np_notes.specs.NameNotes.{group_in, groups_of, interface_in, interfaces_named}
+use Rattle.np_notes.specs.NameNotes.{group_in, interface_in, interfaces_named}
 use Rattle.np_notes.specs.Naming.{with_each}
 use Rattle.np_acl_read.specs.Judging.{line_says}
 use Rattle.np_notes.specs.ReadLines.{ReadLine, Shape, line_kind, lines_from, read_after, shape_of, statements_of, unless_faulty}
 use Rattle.np_notes.specs.Shaping.{foreign_after, strayed_after}
-use Rattle.np_notes.specs.Walked.{HasFound, HasWalked, IsContext}
+use Rattle.np_notes.specs.Walked.{HasFound, HasWalked}
 
 -- ---- one more at the end
 
@@ -47,13 +45,13 @@ fold_append f b (x ∷ xs) ys = fold_append f (f b x) xs ys
 
 -- ---- the context
 
-foreign_more : (earlier : List ReadLine) (line : ReadLine) → is_foreign_open (line ∷ earlier) ≡ foreign_after (shape_of line) (is_foreign_open earlier)
+pub foreign_more : (earlier : List ReadLine) (line : ReadLine) → is_foreign_open (line ∷ earlier) ≡ foreign_after (shape_of line) (is_foreign_open earlier)
 foreign_more earlier line = by (goes_on (shape_of line)) refl where
   by : (b : Bool) → goes_on (shape_of line) ≡ b → is_foreign_open (line ∷ earlier) ≡ (if b then is_foreign_open earlier else begins_foreign_list (shape_of line))
   by true on = rw on refl
   by false off = rw off refl
 
-strayed_more : (earlier : List ReadLine) (line : ReadLine) → has_strayed (line ∷ earlier) ≡ strayed_after (shape_of line) (has_strayed earlier)
+pub strayed_more : (earlier : List ReadLine) (line : ReadLine) → has_strayed (line ∷ earlier) ≡ strayed_after (shape_of line) (has_strayed earlier)
 strayed_more earlier line =
     ap (λ lines. list_any (λ l. is_outer (shape_of l)) lines) (take_while-cons (λ l. not (is_interface_kind (line_kind l))) line earlier)
     ∙ by (is_interface_kind (line_kind line))

@@ -7,4 +7,6 @@ pub mod NameNotes
 pub mod Notes
 pub mod Shaping
 pub mod Naming
+pub mod Places
 pub mod Walked
+pub mod Clean

@@ -1,6 +1,5 @@
 -- The shape of a line, as the walk holds it.
-use Rattle.std.specs.Prelude.{Bool, false, ◌&&◌, ◌||◌, if◌then◌else◌}
-use Rattle.np_notes.specs.declared.context.Context.{Context}
+use Rattle.std.specs.Prelude.{Bool, false, ◌||◌, if◌then◌else◌}
 use Rattle.np_notes.specs.declared.line_shape.LineShape.{LineShape}
 use Rattle.np_notes.specs.Foreign.{begins_foreign_list, goes_on, is_outer}
 use Rattle.np_notes.specs.Kinds.{is_interface_kind}

@@ -3,12 +3,17 @@
 
 mod context;
 mod group_line;
+mod group_notes;
 mod kinds;
+pub mod laws;
 mod line_notes;
 mod line_shape;
+mod missing;
 mod names;
 mod note;
+mod noting;
 mod shape;
 mod walk;
 
 pub use note::Note;
+pub use noting::notes;

@@ -88,11 +88,7 @@ fn is_not_modelled(line: &LineShape<'_>, section: &Section) -> bool
 }
 
 /// The interface at which a line applies a list after a line at the margin.
-fn strayed_from<'a>(
-    line: &LineShape<'_>,
-    section: &'a Section,
-    strayed: bool,
-) -> Option<&'a Name>
+fn strayed_from<'a>(line: &LineShape<'_>, section: &'a Section, strayed: bool) -> Option<&'a Name>
     ensures { option_copied result ≡ rule.strayed_from (shape_in line.now) section.now strayed }
 {
     if is_group(line.kind) && strayed {

@@ -1,6 +1,10 @@
 //! Notes on a configuration.
 
+ghost use Rattle.std.specs.Prelude.{◌≡◌, ◌++◌, OnOk};
+ghost use Rattle.std.specs.Option.{option_to_list};
+
 use np_text::Name;
+use std::alloc::AllocError;
 
 /// What the reading of a configuration passed over and may matter. Lines are numbered from 1.
 #[derive(Debug, Drop)]
@@ -22,4 +26,14 @@ pub enum Note {
     Undefined { line: u64, list: Name },
     /// A list is applied that has no entries.
     Empty { line: u64, list: Name },
+}
+
+/// Adds a note, where there is one.
+pub fn add_note(notes: &mut Vec<Note>, note: Option<Note>) -> Result<(), AllocError>
+    ensures { OnOk result (notes.new.items ≡ notes.old.items ++ option_to_list note) }
+{
+    if let Some(note) = note {
+        notes.push(note)?;
+    }
+    Ok(())
 }

@@ -14,7 +14,7 @@ use crate::group_line::GroupLine;
 use crate::line_notes::line_note;
 use crate::line_shape::line_shape;
 use crate::names::add_name;
-use crate::note::Note;
+use crate::note::{Note, add_note};
 use np_acl_read::{Declared, Section, Statement, line_statement};
 use np_lines::LineError;
 use np_net::Names;
@@ -63,16 +63,6 @@ fn start(alloc: Global) -> Walk
     }
 }
 
-/// Adds a note, where there is one.
-fn add_note(notes: &mut Vec<Note>, note: Option<Note>) -> Result<(), AllocError>
-    ensures { OnOk result (notes.new.items ≡ notes.old.items ++ option_to_list note) }
-{
-    if let Some(note) = note {
-        notes.push(note)?;
-    }
-    Ok(())
-}
-
 /// The line of this number that applies a list, where it does.
 fn group_line(
     alloc: Global,
@@ -82,11 +72,13 @@ fn group_line(
     ensures { IfOk result (λ group. group ≡ names.group_in number said.now) }
 {
     match said {
-        Some(Statement::Group {
-            interface,
-            way,
-            list,
-        }) => Ok(Some(GroupLine {
+        Some(
+            Statement::Group {
+                interface,
+                way,
+                list,
+            },
+        ) => Ok(Some(GroupLine {
             line: number,
             interface: interface.copy(alloc)?,
             way: *way,

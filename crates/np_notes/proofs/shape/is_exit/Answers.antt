@@ -1,5 +1,4 @@
 use Rattle.std.proofs.Common.{rules}
-use Rattle.np_text.specs.Views.{word_view}
 use Rattle.np_notes.proofs.WordLaws.{exit_alone, exit_with_more}
 use Rattle.np_notes.proofs.shape.is_exit.Goals as goal
 

@@ -1,0 +1,148 @@
+//! The notes of lists that are applied.
+
+ghost use Rattle.std.specs.Prelude.{◌≡◌, ◌++◌, ◌∷◌, [], not, reverse, length, option_map, if◌then◌else◌, IfOk, OnOk};
+ghost use Rattle.std.specs.List.{filter_map};
+ghost use Rattle.std.specs.Map.{lookup};
+ghost use Rattle.std.specs.Str.{bytes_eq};
+ghost use Rattle.np_notes.specs.NameNotes as names;
+ghost use Rattle.np_notes.specs.Places as places;
+
+use crate::group_line::GroupLine;
+use crate::names::add_new;
+use crate::note::{Note, add_note};
+use np_acl::Way;
+use np_acl_read::Declared;
+use np_net::Names;
+use std::alloc::{AllocError, Global};
+
+/// Interfaces and ways.
+#[derive(Drop)]
+pub struct Places {
+    pub inward: Names,
+    pub outward: Names,
+}
+
+impl Places {
+    /// None.
+    fn new(alloc: Global) -> Places
+        ensures inward { result.inward ≡ [] }
+        ensures outward { result.outward ≡ [] }
+    {
+        Places {
+            inward: Names::new(alloc),
+            outward: Names::new(alloc),
+        }
+    }
+
+    /// Adds the place of a line, and says whether it wasn't there.
+    fn add(&mut self, alloc: Global, group: &GroupLine) -> Result<bool, AllocError>
+        ensures fresh { IfOk result (λ fresh. fresh ≡ not (places.has_place self.old group.now)) }
+        ensures added { OnOk result (self.new ≡ places.with_place self.old group.now) }
+    {
+        match group.way {
+            Way::Inward => add_new(alloc, &mut self.inward, &group.interface),
+            Way::Outward => add_new(alloc, &mut self.outward, &group.interface),
+        }
+    }
+}
+
+/// Keeps a line whose place wasn't there before.
+fn keep_if_new(
+    alloc: Global,
+    seen: &mut Places,
+    kept: &mut Vec<GroupLine>,
+    group: GroupLine,
+) -> Result<(), AllocError>
+    ensures seen { OnOk result (seen.new ≡ places.with_place seen.old group) }
+    ensures kept { OnOk result (kept.new.items ≡ kept.old.items ++ (if places.has_place seen.old group then [] else group ∷ [])) }
+{
+    if seen.add(alloc, &group)? {
+        kept.push(group)?;
+    }
+    Ok(())
+}
+
+/// The last line for each interface and way, the last one of them first.
+#[tactic(auto, using(crate::proofs::PlaceLaws::last_one, crate::proofs::PlaceLaws::last_start))]
+fn last_groups(alloc: Global, groups: &mut Vec<GroupLine>) -> Result<Vec<GroupLine>, AllocError>
+    ensures { IfOk result (λ kept. reverse kept.items ≡ names.last_groups groups.old.items) }
+{
+    let mut seen = Places::new(alloc);
+    let mut kept = Vec::new(alloc);
+    while let Some(group) = groups.pop() {
+        keep_if_new(alloc, &mut seen, &mut kept, group)?;
+    }
+    Ok(kept)
+}
+
+/// The note of a list that a line applies, by its number of entries, if it is there.
+#[tactic(auto, using(crate::proofs::NameLaws::list_note_by_count))]
+fn list_note(
+    alloc: Global,
+    declared: &Declared,
+    group: &GroupLine,
+) -> Result<Option<Note>, AllocError>
+    ensures { IfOk result (λ note. note ≡ names.list_note group.now (lookup (bytes_eq group.now.list) declared.now.lists)) }
+{
+    match declared.entry_count(&group.list) {
+        None => Ok(Some(Note::Undefined {
+            line: group.line,
+            list: group.list.copy(alloc)?,
+        })),
+        Some(0) => Ok(Some(Note::Empty {
+            line: group.line,
+            list: group.list.copy(alloc)?,
+        })),
+        Some(_) => Ok(None),
+    }
+}
+
+/// The note of a line that applies a list.
+fn group_note(
+    alloc: Global,
+    known: &Names,
+    declared: &Declared,
+    group: &GroupLine,
+) -> Result<Option<Note>, AllocError>
+    ensures { IfOk result (λ note. note ≡ names.group_note known.now declared.now.lists group.now) }
+{
+    if known.has(alloc, group.interface.bytes())? {
+        list_note(alloc, declared, group)
+    } else {
+        Ok(Some(Note::UnknownInterface {
+            line: group.line,
+            interface: group.interface.copy(alloc)?,
+        }))
+    }
+}
+
+/// Adds the notes of lines that apply lists, of which the last stands first.
+fn add_notes(
+    alloc: Global,
+    notes: &mut Vec<Note>,
+    known: &Names,
+    declared: &Declared,
+    groups: &mut Vec<GroupLine>,
+) -> Result<(), AllocError>
+    ensures { OnOk result (notes.new.items ≡ notes.old.items ++ filter_map (names.group_note known.now declared.now.lists) (reverse groups.old.items)) }
+{
+    while let Some(group) = groups.pop() {
+        add_note(notes, group_note(alloc, known, declared, &group)?)?;
+    }
+    Ok(())
+}
+
+/// Adds the notes of lines that apply lists, for a device with these interfaces. An error comes only
+/// where memory runs out.
+pub fn add_group_notes(
+    alloc: Global,
+    notes: &mut Vec<Note>,
+    known: &Names,
+    declared: &Declared,
+    groups: &mut Vec<GroupLine>,
+) -> Result<(), AllocError>
+    ensures { OnOk result (notes.new.items ≡ notes.old.items ++ names.group_notes known.now declared.now.lists groups.old.items) }
+{
+    let mut kept = last_groups(alloc, groups)?;
+    add_notes(alloc, notes, known, declared, &mut kept)
+}

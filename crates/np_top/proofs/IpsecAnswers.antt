@@ -1,7 +1,9 @@
 -- How the answers on IPsec goals come to be right, and that what they name is the network's.
-use Rattle.std.proofs.Common.{◌≡◌, ℕ, zero, suc, ◌+◌, ◌<◌, inl, inr, List, [], ◌∷◌, ◌++◌, length, take, All, Option, Some, None, IfSome, slice_get, refl, sym, subst, add-one, arith}
-use Rattle.std.specs.List.{AllByRecursion}
+use Rattle.std.proofs.Common.{◌≡◌, ℕ, zero, suc, ◌+◌, ◌<◌, inl, inr, List, [], ◌∷◌, ◌++◌, length, take, All, Option, Some, None, IfSome, get_or, slice_get, true, false, refl, sym, ◌∙◌, ap, subst, add-one, arith}
+use Rattle.std.specs.List.{AllByRecursion, list_any}
 use Rattle.std.proofs.lemmas.List.Elements.{All-cons, All-nil}
+use Rattle.std.proofs.lemmas.List.Folds.{list_any_at}
+use Rattle.std.proofs.lemmas.Bool.{true≢false}
 use Rattle.std.proofs.lemmas.Option.{get_or_from_slice_get}
 use Rattle.np_pred.specs.declared.predicate.Pred.{Pred}
 use Rattle.np_net.specs.Network.{IsIpGoal, IsNetwork}
@@ -23,10 +25,27 @@ use Rattle.np_conf.specs.declared.answers.Answer.TheVariants as conf_answer
 use Rattle.np_conf.specs.declared.answers.Broken.{Broken as ConfBroken}
 use Rattle.np_conf.specs.declared.answers.Broken.TheVariants.{K0Area, K0Interface, K1, K2}
 use Rattle.np_conf.proofs.RangeLaws.{protection_in_range}
+use Rattle.np_ipgoals.specs.Findings.{is_auth, is_conf}
 use Rattle.np_ipsec_report.specs.Answers.{HasAuthPlaces, HasConfPlaces, HasPlaces}
 use Rattle.np_ipsec_report.specs.declared.answers.IpAnswer.{IpAnswer}
 use Rattle.np_ipsec_report.specs.declared.answers.IpAnswer.TheVariants as answers
 use Rattle.np_top.specs.Ipsec.{AreRightAnswers, IsRightAnswer}
+
+-- ---- which goals there are
+
+-- a goal on authentication is one that asks for passages
+pub auth_asked : (net : Plan) (k : ℕ) → auth.IsAuth net k → list_any is_auth net.ipgoals ≡ false → ⊥
+auth_asked net k asked none =
+    let goal = asked.3 in
+    true≢false (sym (list_any_at is_auth net.ipgoals k (goals.Auth asked.0 asked.1 asked.2) goal.within (ap is_auth goal.stated)) ∙ none)
+
+-- a goal on confidentiality is one that asks for outlets
+pub conf_asked : (net : Plan) (k : ℕ) → k < length net.ipgoals → conf.IsConf (ipgoal_at net k) → list_any is_conf net.ipgoals ≡ false → ⊥
+conf_asked net k lt asked none = true≢false (sym (list_any_at is_conf net.ipgoals k _ lt (by (ipgoal_at net k) asked)) ∙ none)
+  where
+    by : (goal : IpGoal) → conf.IsConf goal → is_conf goal ≡ true
+    by (goals.Auth from at pred) is = absurd is
+    by (goals.Conf from pred) is = refl
 
 -- ---- the answer on one goal
 

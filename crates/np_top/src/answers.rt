@@ -5,7 +5,12 @@ ghost use Rattle.np_outside.specs.Counts.{Rose};
 ghost use Rattle.np_outside.specs.Files.{Files};
 ghost use Rattle.np_space.specs.Classes.{AreLeasts};
 ghost use Rattle.np_region.specs.Keeping.{KeepsRegions};
+ghost use Rattle.np_pred.specs.declared.predicate.Pred.{Pred as Predicate};
 ghost use Rattle.np_net.specs.declared.associations.IpGoal.{IpGoal as Aim};
+ghost use Rattle.np_auth.specs.Answers as auth;
+ghost use Rattle.np_auth.specs.Answers.{IsAuth, IsAuthGoal};
+ghost use Rattle.np_conf.specs.Answers as conf;
+ghost use Rattle.np_conf.specs.Answers.{IsConf, ipgoal_at};
 ghost use Rattle.np_net.specs.declared.filtering.Goal.{Goal};
 ghost use Rattle.np_atoms.specs.Atoms.{AreAtoms};
 ghost use Rattle.np_cut.specs.Applying.{slot_lets};
@@ -39,8 +44,8 @@ use crate::status::Status;
 use np_acl_read::Config;
 use np_atomizer::Atomizer;
 use np_atoms::Atoms;
-use np_auth::check_auth;
-use np_conf::check_conf;
+use np_auth::{Answer as AuthAnswer, check_auth};
+use np_conf::{Answer as ConfAnswer, check_conf};
 use np_cut::{Applied, apply, filter_cuts};
 use np_goals::{Verdict, case_of, judge};
 use np_ipgoals::{Findings, findings, ipsec_cuts};
@@ -200,6 +205,36 @@ fn trace(alloc: Global, play: Play) -> Result<Answer, AllocError>
     trace_script(alloc, &net, &script)
 }
 
+/// The answer on an authentication goal.
+#[tactic(auto, using(np_ipgoals::proofs::RespectLaws::leasts_serve, crate::proofs::IpsecAnswers::auth_asked))]
+fn auth_answer(net: &Network, leasts: &[Header], found: &Findings, k: usize) -> AuthAnswer
+    requires goal { k < length net.now.ipgoals }
+    requires auth { IsAuth net.now k }
+    requires leasts { AreLeasts (ipsec_tests net.now) leasts.now }
+    requires found { AreFindings net.now leasts.now found.now }
+    ensures { (from here : ℕ) (pred : Predicate) → IsAuthGoal net.now k from here pred → auth.IsAnswer net.now from here pred result }
+{
+    match &found.passages {
+        Some(passages) => check_auth(net, leasts, passages, k),
+        None => unreachable!(),
+    }
+}
+
+/// The answer on a confidentiality goal.
+#[tactic(auto, using(np_ipgoals::proofs::RespectLaws::leasts_serve, crate::proofs::IpsecAnswers::conf_asked))]
+fn conf_answer(net: &Network, leasts: &[Header], found: &Findings, k: usize) -> ConfAnswer
+    requires goal { k < length net.now.ipgoals }
+    requires conf { IsConf (ipgoal_at net.now k) }
+    requires leasts { AreLeasts (ipsec_tests net.now) leasts.now }
+    requires found { AreFindings net.now leasts.now found.now }
+    ensures { conf.IsAnswerTo net.now (ipgoal_at net.now k) result }
+{
+    match &found.outlets {
+        Some(outlets) => check_conf(net, leasts, outlets, k),
+        None => unreachable!(),
+    }
+}
+
 /// The answer on an IPsec goal.
 fn ip_answer(net: &Network, leasts: &[Header], found: &Findings, k: usize) -> IpAnswer
     requires goal { k < length net.now.ipgoals }
@@ -208,14 +243,8 @@ fn ip_answer(net: &Network, leasts: &[Header], found: &Findings, k: usize) -> Ip
     ensures right { (goal : Aim) → slice_get net.now.ipgoals k ≡ Some goal → IsRightAnswer net.now goal result }
 {
     match &net.ipgoals.as_slice()[k] {
-        IpGoal::Auth { .. } => match &found.passages {
-            Some(passages) => IpAnswer::Auth(check_auth(net, leasts, passages, k)),
-            None => unreachable!(),
-        },
-        IpGoal::Conf { .. } => match &found.outlets {
-            Some(outlets) => IpAnswer::Conf(check_conf(net, leasts, outlets, k)),
-            None => unreachable!(),
-        },
+        IpGoal::Auth { .. } => IpAnswer::Auth(auth_answer(net, leasts, found, k)),
+        IpGoal::Conf { .. } => IpAnswer::Conf(conf_answer(net, leasts, found, k)),
     }
 }
 

@@ -1,15 +1,8 @@
 use Rattle.std.proofs.Common.{◌≡◌, Some, length, get_or, refl, slice_get, subst}
 use Rattle.std.proofs.lemmas.Option.{slice_get_read}
 use Rattle.np_net.specs.declared.associations.IpGoal.TheVariants as goals
-use Rattle.np_ipgoals.proofs.RespectLaws.{leasts_serve}
 use Rattle.np_top.proofs.IpsecAnswers.{auth_right, conf_right}
 use Rattle.np_top.proofs.answers.ip_answer.Goals as goal
-
-pub check_auth-requires-clause-leasts : goal.check_auth-requires-clause-leasts
-check_auth-requires-clause-leasts c = leasts_serve c.args.net.now c.args.leasts.now c.requires.leasts
-
-pub check_conf-requires-clause-leasts : goal.check_conf-requires-clause-leasts
-check_conf-requires-clause-leasts c = leasts_serve c.args.net.now c.args.leasts.now c.requires.leasts
 
 pub returns-in-Auth : goal.returns-in-Auth
 returns-in-Auth c =
@@ -20,7 +13,7 @@ returns-in-Auth c =
     let here : slice_get net.ipgoals k ≡ Some found = slice_get_read net.ipgoals (length net.ipgoals) k found refl c.requires.goal read in
     let own = c.in-Auth in
     let at : slice_get net.ipgoals k ≡ Some (goals.Auth own.from own.at own.pred) = cc in
-    record { right = auth_right net k c.requires.goal own.from own.at own.pred c.check_auth.result at c.check_auth.ensures }
+    record { right = auth_right net k c.requires.goal own.from own.at own.pred c.auth_answer.result at c.auth_answer.ensures }
 
 pub returns-in-Conf : goal.returns-in-Conf
 returns-in-Conf c =
@@ -31,4 +24,4 @@ returns-in-Conf c =
     let here : slice_get net.ipgoals k ≡ Some found = slice_get_read net.ipgoals (length net.ipgoals) k found refl c.requires.goal read in
     let own = c.in-Conf in
     let at : slice_get net.ipgoals k ≡ Some (goals.Conf own.from own.pred) = cc in
-    record { right = conf_right net k c.requires.goal own.from own.pred c.check_conf.result at c.check_conf.ensures.answer }
+    record { right = conf_right net k c.requires.goal own.from own.pred c.conf_answer.result at c.conf_answer.ensures }

@@ -13,7 +13,8 @@ use Rattle.np_goals.specs.declared.verdicts.Verdict.{Verdict}
 use Rattle.np_goals.specs.declared.verdicts.Verdict.TheVariants.{Violated}
 use Rattle.np_report.specs.Summary.{hop_count, is_hop_line, is_violated, summary_text}
 use Rattle.np_report.specs.Verdicts.{all_hold, goals_lines, verdict_lines}
-use Rattle.np_report.specs.Words.{header_words, hop_lines, hop_words, text_of}
+use Rattle.np_script.specs.Written.{header_words}
+use Rattle.np_report.specs.Words.{hop_lines, hop_words, text_of}
 use Rattle.np_report.proofs.TextLaws.{lines_appended}
 
 -- how many of some items pass, and of others

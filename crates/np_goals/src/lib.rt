@@ -15,6 +15,5 @@ mod verdicts;
 pub use all::judge;
 pub use cases::{Case, case_of};
 pub use flowing::flows;
-pub use gate::{Gate, NoGate};
 pub use laws::{cuts_have_leasts, each_goal_has_a_verdict};
 pub use verdicts::Verdict;

@@ -1,48 +1,49 @@
 //! Atoms of cuts, over both stores.
 
-ghost use Rattle.std.specs.Prelude.{◌≡◌, ℕ, ◌<◌, ◌≤◌, [], length, slice_index_or};
+ghost use Rattle.std.specs.Prelude.{◌≡◌, ◌<◌, ◌≤◌, length};
+ghost use Rattle.std.specs.List.{All};
 ghost use Rattle.np_region.specs.Keeping.{EachFits};
-ghost use Rattle.np_atomizer.specs.Atoms.{atoms_in, sets_in};
 
-use np_atomizer::{Atoms, atomize};
+use np_atomizer::Atomizer;
+use np_atoms::Atoms;
 use np_bdd::Diagrams;
-use np_region::{BlockLists, Regions};
+use np_region::BlockLists;
 use np_space::{Block, Span, is_valid, valid_blocks};
 use std::alloc::{AllocError, Global};
 use std::process::Abort;
 use std::test::Fail;
 
 // An atom as a line: the fields of its least member, and what each cut answers.
-fn line<R: Drop>(alloc: Global, atoms: &Atoms<R>, n: usize) -> Result<String, AllocError>
-    requires atom { n < length (atoms_in atoms.now) }
-    requires sets { (k : ℕ) → k < length (sets_in atoms.now) → length (slice_index_or (sets_in atoms.now) k []) ≡ length (atoms_in atoms.now) }
+fn line(alloc: Global, atoms: &Atoms, n: usize) -> Result<String, AllocError>
+    requires atom { n < length atoms.now.leasts }
+    requires sets { All (λ set. length set ≡ length atoms.now.leasts) atoms.now.cuts }
 {
-    let h = atoms.least(n);
+    let h = atoms.leasts.as_slice()[n];
     let est = u8::from(h.est);
     let mut text = format!(in alloc;
         "{} {} {} {} {} {est} {} ",
         h.src, h.dst, h.proto, h.a, h.b, h.dscp
     )?;
-    for cut in 0..atoms.cuts() {
-        text.push_str(if atoms.answer(n, cut) { "1" } else { "0" })?;
+    for cut in atoms.cuts.as_slice() {
+        text.push_str(if cut.has(n) { "1" } else { "0" })?;
     }
     Ok(text)
 }
 
-// Each atom's line; "!" after one whose least member is not found in the atom itself, is not the least
-// of its region, or stands elsewhere in the list.
-fn table<S: Regions>(alloc: Global, store: &mut S, cuts: &[S::R]) -> Result<String, AllocError>
+// Each atom's line; "!" after one whose least member is not found in the atom itself, or is not the
+// least of its region.
+fn table<S: Atomizer>(alloc: Global, store: &mut S, cuts: &[S::R]) -> Result<String, AllocError>
     requires { EachFits S.fits store.old cuts.now }
 {
-    let atoms = atomize(alloc, store, cuts)?;
-    let leasts = atoms.leasts(alloc)?;
+    let made = store.atomize(alloc, cuts)?;
     let mut text = String::new(alloc);
-    for n in 0..atoms.len() {
-        text.push_str(line(alloc, &atoms, n)?.as_str())?;
-        let least = atoms.least(n);
-        let found = is_valid(&least) && atoms.atom_of(store, &least) == n;
-        let own = store.least(atoms.region(n)) == Some(least);
-        if !found || !own || leasts.get(n) != Some(&least) {
+    for n in 0..made.atoms.leasts.len() {
+        text.push_str(line(alloc, &made.atoms, n)?.as_str())?;
+        let least = made.atoms.leasts.as_slice()[n];
+        let found = is_valid(&least) && store.atom_of(&made.classes, &least) == n;
+        let region = store.region(alloc, &made.classes, n)?;
+        let own = store.least(&region) == Some(least);
+        if !found || !own {
             text.push_str("!")?;
         }
         text.push_str("\n")?;
@@ -69,7 +70,7 @@ fn marked(block: &Block, low: u16, high: u16) -> Block
 }
 
 // The atoms of the valid headers in two blocks.
-fn of_blocks<S: Regions>(
+fn of_blocks<S: Atomizer>(
     alloc: Global,
     store: &mut S,
     x: &Block,
@@ -84,7 +85,7 @@ fn of_blocks<S: Regions>(
 }
 
 // The atoms of all valid headers but those in a block, and of those in it.
-fn of_rest_and_block<S: Regions>(
+fn of_rest_and_block<S: Atomizer>(
     alloc: Global,
     store: &mut S,
     block: &Block,
@@ -99,7 +100,7 @@ fn of_rest_and_block<S: Regions>(
 }
 
 // The atoms of no header, and of all valid ones.
-fn of_none_and_whole<S: Regions>(alloc: Global, store: &mut S) -> Result<String, AllocError> {
+fn of_none_and_whole<S: Atomizer>(alloc: Global, store: &mut S) -> Result<String, AllocError> {
     let none = store.none();
     let whole = store.whole()?;
     let mut cuts = Vec::new(alloc);
@@ -109,7 +110,7 @@ fn of_none_and_whole<S: Regions>(alloc: Global, store: &mut S) -> Result<String,
 }
 
 // What is over every store.
-fn atoms_of_cuts<R: Abort, S: Regions>(rt: &R, alloc: Global, store: &mut S) -> Result<(), Fail> {
+fn atoms_of_cuts<R: Abort, S: Atomizer>(rt: &R, alloc: Global, store: &mut S) -> Result<(), Fail> {
     let [_, icmp, _, tcp, _, _, _] = valid_blocks();
     assert_eq!(rt; table(alloc, store, &[])?.as_str(), "0 0 0 0 0 0 0 \n");
     assert_eq!(rt;

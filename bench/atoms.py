@@ -18,22 +18,39 @@ import time
 HERE = os.path.dirname(os.path.abspath(__file__))
 
 
+def network(areas, joins, lists, ways, goals):
+    """Devices that join areas, each interface with a list for each of these ways, and goals for every packet from one area after another."""
+    net = [f'area a{k} none' for k in range(areas)]
+    net += [f'device d{k} config d{k}.cfg' for k in range(len(joins))]
+    configs, left = {}, iter(lists)
+    for k, joined in enumerate(joins):
+        net += [f'interface d{k} e{n} a{area}' for n, area in enumerate(joined)]
+        config = []
+        for n in range(len(joined)):
+            for way in ways:
+                name = f'e{n}-{way}'
+                config += [f'interface e{n}', f' ip access-group {name} {way}', f'ip access-list extended {name}']
+                config += [f' {entry}' for entry in next(left, ['permit ip any any'])]
+        configs[f'd{k}.cfg'] = config
+    net += [f'goal a{k % areas} a{(k + areas // 2) % areas} never any' for k in range(goals)]
+    return net, configs
+
+
 def line(lists, goals):
     """Areas in a line, joined by devices with four lists each, one for each interface and way."""
     devices = (len(lists) + 3) // 4
-    net = [f'area a{k} none' for k in range(devices + 1)]
-    net += [f'device d{k} config d{k}.cfg' for k in range(devices)]
-    for k in range(devices):
-        net += [f'interface d{k} e0 a{k}', f'interface d{k} e1 a{k + 1}']
-    net += [f'goal a{k % (devices + 1)} a{(k + 1 + k % devices) % (devices + 1)} never any' for k in range(goals)]
-    configs = {}
-    for k in range(devices):
-        config = []
-        for n, entries in enumerate(lists[4 * k:4 * k + 4]):
-            config += [f'interface e{n // 2}', f' ip access-group {100 + n} {("in", "out")[n % 2]}']
-            config += [f'access-list {100 + n} {entry}' for entry in entries]
-        configs[f'd{k}.cfg'] = config
-    return net, configs
+    return network(devices + 1, [(k, k + 1) for k in range(devices)], lists, ('in', 'out'), goals)
+
+
+def mesh(lists, goals):
+    """Sixteen areas and sixteen devices, each of which joins four of them, with a list at each interface."""
+    return network(16, [(k, (k + 1) % 16, (k + 4) % 16, (k + 9) % 16) for k in range(16)], lists, ('in',), goals)
+
+
+def wide(lists, goals):
+    """A ring of 256 areas and 256 devices, each of which joins four of them, with a list at each of the 2,048 slots."""
+    joins = [(k, (k + 1) % 256, (k + 16) % 256, (k + 64) % 256) for k in range(256)]
+    return network(256, joins, [lists[n % len(lists)] for n in range(2048)], ('in', 'out'), goals)
 
 
 def host(chance):
@@ -55,7 +72,7 @@ def between_hosts(count, entries, hosts, ports):
     chance = random.Random(2)
     names = [host(chance) for _ in range(hosts)]
     numbers = [chance.randrange(1, 10000) for _ in range(ports)]
-    return line([[f'{chance.choice(("permit", "permit", "deny"))} tcp {chance.choice(names)} {chance.choice(names)} eq {chance.choice(numbers)}'
+    return mesh([[f'{chance.choice(("permit", "permit", "deny"))} tcp {chance.choice(names)} {chance.choice(names)} eq {chance.choice(numbers)}'
                   for _ in range(entries)] + ['permit udp any any'] for _ in range(count)], 16)
 
 
@@ -72,7 +89,7 @@ def mixed(count, entries, hosts, ports):
             ends = (f'{source} {target}', f'any {target}', f'{source} any')[n % 3]
             entries_of.append(f'{chance.choice(("permit", "permit", "deny"))} tcp {ends} eq {chance.choice(numbers)}')
         lists.append(entries_of)
-    return line(lists, 16)
+    return mesh(lists, 16)
 
 
 def grid(sources, targets, ports, count):
@@ -85,7 +102,7 @@ def grid(sources, targets, ports, count):
     while len(lists) < count:
         lists.append([f'permit ip 10.{chance.randrange(sources)}.0.0 0.0.255.255 10.{chance.randrange(targets)}.0.0 0.0.255.255'])
     chance.shuffle(lists)
-    return line(lists, 16)
+    return lists
 
 
 def run(program, command, net, configs):
@@ -104,15 +121,19 @@ def run(program, command, net, configs):
     return f'{seconds:.2f} s, {usage.ru_maxrss / 1024:.0f} MB, status {child.returncode}', atoms
 
 
+# The text of its atoms would have 220 MB, so it is checked alone.
+LARGEST = '200 of these lists at 2,048 slots, 64 goals from as many areas'
+
 CASES = (
     ('a line of 128 areas, 4 host entries a list', hosts_in_line(128, 4)),
-    ('64 lists, 50 entries between 2,000 hosts on 200 ports', between_hosts(64, 50, 2000, 200)),
-    ('64 lists, 1,000 entries between 2,000 hosts on 200 ports', between_hosts(64, 1000, 2000, 200)),
-    ('16 lists, 50 entries, of which two in three have any host at one end', mixed(16, 50, 2000, 200)),
-    ('64 lists, 50 entries, of which two in three have any host at one end', mixed(64, 50, 2000, 200)),
-    ('100 lists, a class for each of 37 sources, 37 destinations and 35 ports', grid(36, 36, 28, 100)),
-    ('200 lists, a class for each of 47 sources, 47 destinations and 46 ports', grid(46, 46, 45, 200)),
-    ('400 lists, a class for each of 59 sources, 59 destinations and 58 ports', grid(58, 58, 57, 400)),
+    ('a mesh, 64 lists, 50 entries between 2,000 hosts on 200 ports', between_hosts(64, 50, 2000, 200)),
+    ('a mesh, 64 lists, 1,000 entries between 2,000 hosts on 200 ports', between_hosts(64, 1000, 2000, 200)),
+    ('a mesh, 16 lists, 50 entries, of which two in three have any host at one end', mixed(16, 50, 2000, 200)),
+    ('a mesh, 64 lists, 50 entries, of which two in three have any host at one end', mixed(64, 50, 2000, 200)),
+    ('150 lists, a class for each of 37 sources, 37 destinations and 35 ports', line(grid(36, 36, 34, 150), 16)),
+    ('200 lists, a class for each of 47 sources, 47 destinations and 46 ports', line(grid(46, 46, 45, 200), 16)),
+    ('400 lists, a class for each of 59 sources, 59 destinations and 58 ports', line(grid(58, 58, 57, 400), 16)),
+    (LARGEST, wide(grid(46, 46, 45, 200), 64)),
 )
 
 
@@ -123,8 +144,10 @@ def main():
     for name, (net, configs) in CASES:
         if only not in name:
             continue
-        figures, atoms = run(program, 'atoms', net, configs)
-        print(f'{name}: {atoms} atoms, {figures}', flush=True)
+        print(name, flush=True)
+        if name is not LARGEST:
+            figures, atoms = run(program, 'atoms', net, configs)
+            print(f'  atoms: {atoms}, {figures}', flush=True)
         figures, _ = run(program, 'check', net, configs)
         print(f'  check: {figures}', flush=True)
 

@@ -8,7 +8,7 @@ use Rattle.std.specs.Bool.{MatchBool, OnFalse, OnTrue}
 use Rattle.np_atomset.specs.AtomSet.{has_member, joined, met}
 use Rattle.np_atomset.proofs.Sets.{has_member-joined, has_member-met, length-combine, length-join_met, count_by-joined_grew}
 use Rattle.np_flow.specs.Postures.{AllHaveLength}
-use Rattle.np_flow.specs.Spread.{has_atom, total, Adds}
+use Rattle.np_flow.specs.Spread.{has_atom, total, Adds, AreMarked, StayMarked}
 
 or_cases : (a b : Bool) → (a || b) ≡ true → (a ≡ true) ⊎ (b ≡ true)
 or_cases true b e = inl refl
@@ -168,3 +168,32 @@ grew_more true true old mid new was grew same = omega arith
 grew_more true false old mid new was grew same = let e : total new ≡ total mid = ap total same in omega arith
 grew_more false true old mid new was grew same = let e : total mid ≡ total old = ap total was in omega arith
 grew_more false false old mid new was grew same = same ∙ was
+
+-- ---- which sets are marked
+
+-- a set that may have grown is marked, if something grew
+pub marked_by : (grew : Bool) (P : ℕ → Type 0) (at : ℕ) (old new : List (List Bool)) (marks : List Bool) → Adds P at old new
+    → OnFalse grew (new ≡ old) → OnTrue grew (has_member marks at ≡ true) → AreMarked old new marks
+marked_by true P at old new marks adds same marked k atom has = elim (adds.only k atom has) [
+  | inl was ↦ inl was
+  | inr p ↦ inr (subst (λ j. has_member marks j ≡ true) p.1 marked)
+]
+marked_by false P at old new marks adds same marked k atom has = inl (subst (λ (x : List (List Bool)). has_atom x k atom ≡ true) same has)
+
+-- one step more
+pub marked_more : (old mid new : List (List Bool)) (before marks : List Bool) → AreMarked old mid before
+    → AreMarked mid new marks → StayMarked before marks → AreMarked old new marks
+marked_more old mid new before marks was now stay k atom has = elim (now k atom has) [
+  | inl earlier ↦ (elim (was k atom earlier) [ inl first ↦ inl first | inr marked ↦ inr (stay k marked) ])
+  | inr marked ↦ inr marked
+]
+
+-- nothing is added where all is there
+pub adds_none : (P : ℕ → Type 0) (at : ℕ) (sets : List (List Bool))
+    → ((atom : ℕ) → P atom → has_atom sets at atom ≡ true) → Adds P at sets sets
+adds_none P at sets there = record {
+  widths = λ w same. same;
+  kept = λ k atom has. has;
+  all = there;
+  only = λ k atom has. inl has;
+}

@@ -1,11 +1,13 @@
 -- What rounds over the interfaces make of the sets of areas and devices.
-use Rattle.std.proofs.Common.{◌≡◌, ℕ, ◌+◌, ◌*◌, ◌<◌, Bool, true, false, List, [], ◌∷◌, ◌++◌, length, length-append, sym, ◌∙◌, subst, inl, inr, refl, arith}
+use Rattle.std.proofs.Common.{◌≡◌, ℕ, ◌+◌, ◌*◌, ◌<◌, Bool, true, false, List, [], ◌∷◌, ◌++◌, length, length-append, replicate, get_or, sym, ◌∙◌, subst, inl, inr, refl, arith}
 use Rattle.std.proofs.lemmas.Bool.{cases_lt}
+use Rattle.std.proofs.lemmas.List.{get_or-replicate}
+use Rattle.np_atomset.specs.AtomSet.{has_member}
 use Rattle.np_net.specs.declared.filtering.Interface.{Interface}
 use Rattle.np_net.specs.Path.{device_of, area_of, IsHop, Leads}
 use Rattle.np_flow.specs.Postures.{lets_atom}
 use Rattle.np_flow.specs.Carrying.{AllCross, Reaches}
-use Rattle.np_flow.specs.Spread.{has_atom, AreEmpty, Begins, Enters, Leaves, Adds, AreAdded, StandsOn, ComesIn, AreEntered, AreReached, HoldReached}
+use Rattle.np_flow.specs.Spread.{has_atom, AreEmpty, Begins, Enters, Leaves, Adds, AreAdded, AreMarked, AreDone, StandsOn, ComesIn, AreEntered, AreReached, HoldReached}
 
 -- ---- one interface after another
 
@@ -105,6 +107,39 @@ entered_next interfaces slots from areas more devices new entered left added = r
     | inr x ↦ (x.0, x.1, (x.2.0, inr x.2.1), x.3)
   ];
 }
+
+-- ---- what is done already
+
+-- where all devices are marked, nothing has to be done
+pub done_first : (interfaces : List Interface) (slots areas devices : List (List Bool)) (count : ℕ)
+    → ((n : ℕ) → n < length interfaces → device_of interfaces n < count)
+    → AreDone (Leaves interfaces slots devices) (device_of interfaces) (area_of interfaces) (length interfaces) (replicate count true) areas
+done_first interfaces slots areas devices count within n lt atom stale leaves =
+    let fresh : get_or (replicate count true) (device_of interfaces n) false ≡ true =
+    get_or-replicate count (device_of interfaces n) true false (within n lt) in
+    let no : false ≡ true = sym stale ∙ fresh in cc
+
+-- what an area had before it was marked has gone in
+pub done_entering : (interfaces : List Interface) (slots : List (List Bool)) (from : ℕ) (areas more devices : List (List Bool)) (marks : List Bool)
+    → AreEntered interfaces slots from areas devices → AreMarked areas more marks
+    → AreDone (Enters interfaces slots more) (area_of interfaces) (device_of interfaces) (length interfaces) marks devices
+done_entering interfaces slots from areas more devices marks entered marked n lt atom stale enters =
+    elim (marked (area_of interfaces n) atom enters.1) [
+      | inl was ↦ entered.all n atom lt (enters.0, inr was)
+      | inr fresh ↦ let no : false ≡ true = sym stale ∙ fresh in cc
+    ]
+
+-- what a device had before it was marked has gone out
+pub done_leaving : (interfaces : List Interface) (slots areas more devices new : List (List Bool)) (marks : List Bool)
+    → AreAdded (Leaves interfaces slots devices) (area_of interfaces) (length interfaces) areas more → AreMarked devices new marks
+    → AreDone (Leaves interfaces slots new) (device_of interfaces) (area_of interfaces) (length interfaces) marks more
+done_leaving interfaces slots areas more devices new marks left marked n lt atom stale leaves =
+    elim (marked (device_of interfaces n) atom leaves.1) [
+      | inl was ↦ left.all n atom lt (leaves.0, was)
+      | inr fresh ↦ let no : false ≡ true = sym stale ∙ fresh in cc
+    ]
+
+-- ---- what is reached
 
 -- where no area is reached, each atom of an area reaches it
 pub reached_none : (interfaces : List Interface) (slots : List (List Bool)) (from : ℕ) (areas : List (List Bool))

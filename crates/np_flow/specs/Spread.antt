@@ -50,6 +50,23 @@ pub record AreAdded (P : ℕ → ℕ → Type 0) (to : ℕ → ℕ) (first : ℕ
   pub all : (n atom : ℕ) → n < first → P n atom → has_atom after (to n) atom ≡ true
   pub only : (k atom : ℕ) → has_atom after k atom ≡ true → (has_atom before k atom ≡ true) ⊎ ((n : ℕ) × (n < first) × P n atom × (to n ≡ k))
 
+-- each set that has an atom more is marked
+abbrev pub AreMarked : List (List Bool) → List (List Bool) → List Bool → Type 0
+AreMarked before after marks =
+    (k atom : ℕ) → has_atom after k atom ≡ true → (has_atom before k atom ≡ true) ⊎ (has_member marks k ≡ true)
+
+-- what was marked still is
+abbrev pub StayMarked : List Bool → List Bool → Type 0
+StayMarked before after = (k : ℕ) → has_member before k ≡ true → has_member after k ≡ true
+
+-- where set `by n` is not marked, set `to n` has the atoms of P n already
+abbrev pub IsDone : (ℕ → ℕ → Type 0) → (ℕ → ℕ) → (ℕ → ℕ) → List Bool → List (List Bool) → ℕ → Type 0
+IsDone P by to marks sets n = (atom : ℕ) → has_member marks (by n) ≡ false → P n atom → has_atom sets (to n) atom ≡ true
+
+-- the same of each of the first n
+abbrev pub AreDone : (ℕ → ℕ → Type 0) → (ℕ → ℕ) → (ℕ → ℕ) → ℕ → List Bool → List (List Bool) → Type 0
+AreDone P by to first marks sets = (n : ℕ) → n < first → IsDone P by to marks sets n
+
 -- the atom stands on area a: it starts there, or reaches it
 abbrev pub StandsOn : ℕ → List (List Bool) → ℕ → ℕ → Type 0
 StandsOn from areas a atom = (a ≡ from) ⊎ (has_atom areas a atom ≡ true)

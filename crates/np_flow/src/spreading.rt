@@ -54,7 +54,8 @@ fn empty_sets(alloc: Global, n: usize, atoms: usize) -> Result<Vec<AtomSet>, All
 /// has as many atoms as those of the posture; where the network has no interface, none. Fails only
 /// for want of memory.
 ///
-/// Whole sets go from area to area, 64 atoms in a word, until nothing grows: no path is listed.
+/// Whole sets go from area to area, 64 atoms in a word, until nothing grows: no path is listed. In each round only
+/// what grew in the one before goes on.
 pub fn flow(
     alloc: Global,
     net: &Network,
@@ -71,12 +72,16 @@ pub fn flow(
     let atoms = count_atoms(slots);
     let mut devices = empty_sets(alloc, net.devices.len(), atoms)?;
     let mut areas = empty_sets(alloc, net.areas.len(), atoms)?;
+    let mut fresh_devices = vec![in alloc; true; net.devices.len()]?;
+    let mut fresh_areas = vec![in alloc; false; net.areas.len()]?;
     spread(
         net.interfaces.as_slice(),
         slots,
         from,
         devices.as_mut_slice(),
         areas.as_mut_slice(),
+        fresh_devices.as_mut_slice(),
+        fresh_areas.as_mut_slice(),
     );
     Ok(Reached {
         sets: Items::from_vec(areas),

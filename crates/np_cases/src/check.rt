@@ -6,9 +6,9 @@ use crate::networks::{
     ladder, protocols,
 };
 use crate::runs::{expect, expect_between, expect_in, expect_report, status};
+use np_atomizer::Atomizer;
 use np_bdd::Diagrams;
 use np_outside::MemSink;
-use np_atomizer::Atomizer;
 use std::alloc::{AllocError, Global};
 use std::process::Abort;
 use std::test::Fail;

@@ -32,6 +32,15 @@ pub struct PartitionClasses {
     numbers: Vec<usize>,
 }
 
+impl PartitionClasses {
+    /// How many places the diagram of the partition has. It is there to be timed and measured.
+    pub fn places(&self) -> usize
+        ensures { result ≡ length self.now.partition.shows }
+    {
+        self.partition.places()
+    }
+}
+
 // The atoms of a partition's classes, in the order of their least members. Its first test is whether a header is valid.
 fn atoms_of(alloc: Global, partition: &Partition) -> Result<Vec<Atom<usize>>, AllocError>
     requires { TellsValid partition.now }

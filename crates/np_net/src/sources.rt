@@ -11,6 +11,7 @@ ghost use Rattle.np_net.specs.Sources.{source_list};
 use crate::filtering::Area;
 use crate::network::Network;
 use np_pred::Areas;
+use sqlite_items::Items;
 use std::alloc::{AllocError, Global};
 
 fn areas_from(alloc: Global, areas: &[Area]) -> Result<Areas, AllocError>
@@ -20,8 +21,8 @@ fn areas_from(alloc: Global, areas: &[Area]) -> Result<Areas, AllocError>
 {
     let mut found = Areas::new(alloc);
     for area in areas {
-        let sources = Vec::from_slice(alloc, area.sources.as_slice())?;
-        found.add(area.name.copy(alloc)?, sources)?;
+        let sources = Items::from_slice(alloc, area.sources.as_slice())?;
+        found.add(alloc, area.name.copy(alloc)?, sources)?;
     }
     Ok(found)
 }

@@ -14,8 +14,7 @@ fn lab(alloc: Global) -> Result<Areas, AllocError> {
     let mut areas = Areas::new(alloc);
     if let Some(sources) = addresses(alloc, b"10.0.0.0/8,192.168.1.7")? {
         let name = Name::of(alloc, b"lab")?;
-        let sources = Vec::from_slice(alloc, sources.as_slice())?;
-        areas.add(name, sources)?;
+        areas.add(alloc, name, sources)?;
     }
     Ok(areas)
 }

@@ -84,8 +84,8 @@ impl Draft {
         ensures declared { OnOk result (self.new.declared ≡ added self.old.declared (says.Area area)) }
         ensures draft { OnOk result (IsDraft self.new) }
     {
-        let sources = Vec::from_slice(alloc, area.sources.as_slice())?;
-        self.sources.add(area.name.copy(alloc)?, sources)?;
+        let sources = Items::from_slice(alloc, area.sources.as_slice())?;
+        self.sources.add(alloc, area.name.copy(alloc)?, sources)?;
         self.area_names.add(alloc, area.name.bytes())?;
         self.declared.areas.push(area)?;
         Ok(())

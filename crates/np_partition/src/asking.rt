@@ -44,6 +44,13 @@ impl Partition {
         self.classes
     }
 
+    /// How many places its diagram has, those that no header comes by among them. It is there to be timed and measured.
+    pub fn places(&self) -> usize
+        ensures { result ≡ length self.now.shows }
+    {
+        self.shows.len()
+    }
+
     /// For each test, in their order, the classes whose headers it has.
     pub fn sets(&self) -> &[AtomSet]
         ensures { result.now ≡ self.now.sets }

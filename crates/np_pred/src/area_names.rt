@@ -4,6 +4,7 @@ ghost use Rattle.std.specs.Prelude.{◌≡◌, ◌++◌, ◌∷◌, [], None, If
 ghost use Rattle.np_pred.specs.Patterns.{are_prefixes};
 ghost use Rattle.np_pred.specs.Areas.{sources_named};
 
+use crate::shared_addresses::Addresses;
 use indexmap::IndexMap;
 use np_space::Ternary;
 use np_text::Name;
@@ -15,7 +16,7 @@ use std::marker::Model;
 /// Each pattern is a prefix.
 #[derive(Drop)]
 pub struct Areas {
-    sources: IndexMap<Name, Items<Ternary>>,
+    sources: IndexMap<Name, Addresses>,
 }
 
 impl Model for Areas {
@@ -41,24 +42,25 @@ impl Areas {
     }
 
     /// Adds an area. Where memory runs out, the areas stay as they were.
-    pub fn add(&mut self, name: Name, sources: Vec<Ternary>) -> Result<(), AllocError>
+    pub fn add(&mut self, alloc: Global, name: Name, sources: Items<Ternary>) -> Result<(), AllocError>
         requires new { sources_named self.old name ≡ None }
-        requires prefixes { IsTrue (are_prefixes sources.items) }
-        ensures ok { OnOk result (self.new ≡ self.old ++ (name, sources.items) ∷ []) }
+        requires prefixes { IsTrue (are_prefixes sources) }
+        ensures ok { OnOk result (self.new ≡ self.old ++ (name, sources) ∷ []) }
         ensures err { OnErr result (self.new ≡ self.old) }
     {
-        self.sources.insert(name, Items::from_vec(sources))?;
+        let sources = Addresses::of(alloc, sources)?;
+        self.sources.insert(name, sources)?;
         Ok(())
     }
 
-    /// A copy of the sources of the area with this name. `Ok(None)` where there is none.
-    pub fn sources(&self, alloc: Global, name: &[u8]) -> Result<Option<Items<Ternary>>, AllocError>
+    /// A share of the sources of the area with this name. `Ok(None)` where there is none.
+    pub fn sources(&self, alloc: Global, name: &[u8]) -> Result<Option<Addresses>, AllocError>
         ensures sources { IfOk result (λ found. found ≡ sources_named self.now name.now) }
         ensures prefixes { IfOk result (λ found. IfSome found (λ patterns. IsTrue (are_prefixes patterns))) }
     {
         let name = Name::of(alloc, name)?;
         match self.sources.get(&name) {
-            Some(sources) => Ok(Some(Items::from_slice(alloc, sources.as_slice())?)),
+            Some(sources) => Ok(Some(sources.share()?)),
             None => Ok(None),
         }
     }

@@ -13,6 +13,7 @@ mod ports;
 mod pred_error;
 mod predicate;
 mod reading;
+mod shared_addresses;
 mod words_left;
 
 pub use address_lists::{addresses, put_addresses};
@@ -26,3 +27,4 @@ pub use laws::{
 pub use pred_error::{PredError, PredFault};
 pub use predicate::Pred;
 pub use reading::{NESTING_LIMIT, parse};
+pub use shared_addresses::Addresses;

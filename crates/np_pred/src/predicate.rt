@@ -4,8 +4,9 @@ ghost use Rattle.std.specs.Prelude.{◌≡◌};
 ghost use Rattle.np_pred.specs.Meaning.{has_ports, pred_holds};
 
 use crate::dscp::DscpSpan;
-use np_space::{Header, Span, Ternary, any_pattern_has};
-use sqlite_items::{Boxed, Items};
+use crate::shared_addresses::Addresses;
+use np_space::{Header, Span, any_pattern_has};
+use sqlite_items::Boxed;
 
 /// A test of a packet's header, of the fields that filters see (Guttman and Herzog, Rigorous
 /// automated network security management, 2005).
@@ -18,9 +19,9 @@ pub enum Pred {
     /// The IP protocol has this number (IANA's protocol numbers).
     Proto(u8),
     /// The source address is in one of the patterns.
-    Src(Items<Ternary>),
+    Src(Addresses),
     /// The destination address is in one of the patterns.
-    Dst(Items<Ternary>),
+    Dst(Addresses),
     /// TCP or UDP, with a source port in the span (RFC 9293, RFC 768).
     SrcPort(Span),
     /// TCP or UDP, with a destination port in the span (RFC 9293, RFC 768).

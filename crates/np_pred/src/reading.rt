@@ -18,10 +18,11 @@ use crate::keywords::{Field, Operator, constant_named, field_named, operator_nam
 use crate::ports::ports;
 use crate::pred_error::{PredError, PredFault};
 use crate::predicate::Pred;
+use crate::shared_addresses::Addresses;
 use crate::words_left::Left;
-use np_space::{Span, Ternary};
+use np_space::Span;
 use np_text::{Word, number};
-use sqlite_items::{Boxed, Items};
+use sqlite_items::Boxed;
 use std::alloc::{AllocError, Global};
 
 /// How deep a predicate may nest: the whole counts as 1.
@@ -52,7 +53,7 @@ fn sources(
     areas: &Areas,
     at: usize,
     word: &[u8],
-) -> Result<Items<Ternary>, PredError>
+) -> Result<Addresses, PredError>
     ensures read { Gives result (sources_of areas.now at word.now) }
     ensures prefixes { IfOk result (λ patterns. IsTrue (are_prefixes patterns)) }
 {
@@ -63,7 +64,7 @@ fn sources(
         };
     }
     match addresses(alloc, word)? {
-        Some(sources) => Ok(sources),
+        Some(sources) => Ok(Addresses::of(alloc, sources)?),
         None => Err(PredError::Fault(PredFault::BadWord(at))),
     }
 }

@@ -1,0 +1,59 @@
+//! `atom_bench NET..`: the atoms of networks' filter cuts, over decision diagrams. It writes a line for each network: how many
+//! atoms there are, how many nodes once they are found, and how many places the partition of header space has. It is there
+//! to be timed. The configurations are read from the current folder.
+#![tactic(auto)]
+
+use np_acl_read::{Config, empty_config, read_config};
+use np_atomizer::Atomizer;
+use np_bdd::Diagrams;
+use np_cut::{apply, filter_cuts};
+use np_net::Network;
+use np_net_read::read_net;
+use std::alloc::{AllocError, Global};
+use std::string::String;
+use std::{env, fs, io};
+
+/// The configuration of a device by its file's text, which has to be read.
+fn config(alloc: Global, bytes: &[u8]) -> Result<Config, AllocError> {
+    match read_config(alloc, bytes) {
+        Ok(config) => Ok(config),
+        Err(_) => Ok(empty_config(alloc)),
+    }
+}
+
+/// The line of a network with these configurations.
+fn line(alloc: Global, net: &Network, configs: Vec<Config>) -> Result<String, AllocError> {
+    let mut store = Diagrams::new(alloc)?;
+    let applied = apply(alloc, net, configs)?;
+    let cuts = filter_cuts(alloc, &mut store, net, &applied)?;
+    let found = store.atomize(alloc, cuts.as_slice())?;
+    format!(in alloc;
+        "{} atoms, {} nodes, {} places\n",
+        found.atoms.leasts.len(), store.count(), found.classes.places()
+    )
+}
+
+/// The configurations of a network's devices.
+fn configs(rt: &HostRuntime, alloc: Global, net: &Network) -> Result<Vec<Config>, io::Error> {
+    let mut configs = Vec::new(alloc);
+    for device in net.devices.as_slice() {
+        let config = match &device.config {
+            Some(name) => config(alloc, fs::read(rt, name.bytes())?.as_slice())?,
+            None => empty_config(alloc),
+        };
+        configs.push(config)?;
+    }
+    Ok(configs)
+}
+
+fn main(rt: HostRuntime) -> Result<(), io::Error> {
+    let alloc = rt.alloc();
+    for file in env::args(&rt)?.skip(1) {
+        let text = fs::read_to_string(&rt, file.as_str())?;
+        if let Ok(net) = read_net(alloc, text.as_bytes()) {
+            let configs = configs(&rt, alloc, &net)?;
+            print!(&rt; "{}", line(alloc, &net, configs)?)?;
+        }
+    }
+    Ok(())
+}

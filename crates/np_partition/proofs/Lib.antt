@@ -1,6 +1,7 @@
 pub mod BitLaws
 pub mod DiagramLaws
 pub mod LeastLaws
+pub mod ListedLaws
 pub mod MemoLaws
 pub mod NodePlaceLaws
 pub mod PairLaws

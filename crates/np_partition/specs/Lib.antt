@@ -1,5 +1,6 @@
 pub mod Diagram
 pub mod Least
+pub mod Listed
 pub mod NodePlaces
 pub mod Pairing
 pub mod Partition

@@ -5,6 +5,7 @@
 mod asking;
 mod class_sets;
 mod least;
+mod listing;
 mod node_memo;
 mod of_region;
 mod of_regions;

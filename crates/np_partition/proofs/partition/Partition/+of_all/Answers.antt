@@ -1,6 +1,6 @@
 use Rattle.std.proofs.lemmas.List.{map-append}
 use Rattle.np_bdd.specs.Views.{node_has}
-use Rattle.np_partition.proofs.partition.Partition.+of_regions.Goals as goal
+use Rattle.np_partition.proofs.partition.Partition.+of_all.Goals as goal
 
 pub returns : goal.returns
 returns t c =

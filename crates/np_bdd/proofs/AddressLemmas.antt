@@ -87,8 +87,12 @@ pub pattern_start : (p : Ternary) (first : ℕ) (views : List View) (tail : ℕ)
 unfolding agrees_below
 pattern_start p first views tail starts = record { starts = starts; tests = λ bits n are. refl }
 
+-- no bit is before them
+pub none_before : (first : ℕ) → first + (32 - 32) ≡ first
+none_before first = omega arith
+
 -- all are
-pub pattern_end : (p : Ternary) (first : ℕ) (views : List View) (tail x : ℕ) → TestsField (pattern_below p 32) first 32 views tail x → TestsField (ternary_has p) first 32 views tail x
+pattern_end : (p : Ternary) (first : ℕ) (views : List View) (tail x : ℕ) → TestsField (pattern_below p 32) first 32 views tail x → TestsField (ternary_has p) first 32 views tail x
 pattern_end p first views tail x tests bits n are =
     tests bits n are ∙ ap (λ b. b && leads_to_yes views bits tail) (pattern_whole p n are.small)
 
@@ -148,10 +152,13 @@ pub so_far_more : (p : Ternary) (first k : ℕ) (old views new : List View) (tai
     → IsField (pattern_below p (k + 1)) (first + (32 - (k + 1))) (k + 1) new tail z → IsSoFar p first (k + 1) old new tail z
 so_far_more p first k old views new tail x z so_far kept field = record { kept = keeps_nodes_chained old views new so_far.kept kept; field = field }
 
--- after the last
-pub so_far_end : (p : Ternary) (first : ℕ) (old views : List View) (tail x : ℕ) → IsSoFar p first 32 old views tail x
-    → StartsAt views first x × TestsField (ternary_has p) first 32 views tail x
-so_far_end p first old views tail x so_far = let field = (rw last at so_far.field) in (field.starts, pattern_end p first views tail x field.tests)
-  where
-    last : first + 0 ≡ first
-    last = omega arith
+-- ---- the whole address
+
+-- with all bits tested a node starts at the first
+pub pattern_starts : (p : Ternary) (first : ℕ) (views : List View) (tail x : ℕ) → IsField (pattern_below p 32) (first + (32 - 32)) 32 views tail x → StartsAt views first x
+pattern_starts p first views tail x field = (rw (none_before first) at field).starts
+
+-- and tests the pattern
+pub pattern_tests : (p : Ternary) (first : ℕ) (views : List View) (tail x : ℕ) → IsField (pattern_below p 32) (first + (32 - 32)) 32 views tail x
+    → TestsField (ternary_has p) first 32 views tail x
+pattern_tests p first views tail x field = pattern_end p first views tail x (rw (none_before first) at field).tests

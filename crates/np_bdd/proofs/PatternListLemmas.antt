@@ -17,11 +17,12 @@ use Rattle.np_space.specs.declared.blocks.AddressField.{AddressField}
 use Rattle.np_space.specs.Patterns.{any_pattern_has}
 use Rattle.np_space.specs.Ternary.{agrees_below, ternary_has}
 use Rattle.np_space.specs.declared.patterns.Ternary.{Ternary}
+use Rattle.np_space.proofs.FlagLemmas.{or_false}
 use Rattle.np_bdd.specs.declared.views.View.{View}
 use Rattle.np_bdd.specs.Views.{bits_of_header, leads_to_yes}
 use Rattle.np_bdd.specs.Nodes.{KeepsNodes, StartsAt, Chooses}
 use Rattle.np_bdd.specs.Fields.{AreBitsOf, TestsField, HasHeaders, AlwaysAnswers, IsField, pattern_below, any_below, allows}
-use Rattle.np_bdd.proofs.AddressLemmas.{bit_above, bit_more, bit_less, agree_alike, one_more, pattern_whole}
+use Rattle.np_bdd.proofs.AddressLemmas.{bit_above, bit_more, bit_less, agree_alike, none_before, one_more, pattern_whole}
 use Rattle.np_bdd.proofs.FieldLemmas.{bit_of_rest, split_field, field_kept, starts_kept, has_alike, has_field}
 
 -- ---- the tests
@@ -95,6 +96,20 @@ no_pattern first width ps views tail x e fits none = record {
   tests = λ bits n are. none.leads bits ∙ ap (λ l. any_below l width n && leads_to_yes views bits tail) (sym e);
 }
 
+-- one pattern is a list's test
+one_pattern : (p : Ternary) (ps : List Ternary) → length ps ≡ 1 → p ≡ get_or ps 0 p → (width n : ℕ) → pattern_below p width n ≡ any_below ps width n
+one_pattern p [] one is width n = absurd (omega (arith, one))
+one_pattern p (q ∷ []) one is width n = ap (λ r. pattern_below r width n) is ∙ sym (or_false (pattern_below q width n))
+one_pattern p (q ∷ r ∷ ps) one is width n = absurd (omega (arith, one))
+
+-- so its node tests the list
+pub of_one_pattern : (first width : ℕ) (p : Ternary) (ps : List Ternary) (views : List View) (tail x : ℕ) → length ps ≡ 1 → p ≡ get_or ps 0 p
+    → IsField (pattern_below p width) first width views tail x → IsField (any_below ps width) first width views tail x
+of_one_pattern first width p ps views tail x one is field = record {
+  starts = field.starts;
+  tests = λ bits n are. field.tests bits n are ∙ ap (λ b. b && leads_to_yes views bits tail) (one_pattern p ps one is width n);
+}
+
 -- where one has everything nothing is tested
 pub every_number : (first width : ℕ) (ps : List Ternary) (views : List View) (tail : ℕ) → ((n : ℕ) → any_below ps width n ≡ true) → StartsAt views (first + 32) tail
     → IsField (any_below ps width) (first + (32 - width)) width views tail tail
@@ -140,11 +155,8 @@ both_sides first width k ps zeros ones next last new tail low high x e narrow be
 pub any_field_tests : (ps all : List Ternary) (first : ℕ) (views : List View) (tail x : ℕ) → all ≡ ps → IsField (any_below all 32) (first + (32 - 32)) 32 views tail x
     → StartsAt views first x × TestsField (any_pattern_has ps) first 32 views tail x
 any_field_tests ps all first views tail x e field =
-    let at_first = (rw (e, last) at field) in
+    let at_first = (rw (e, none_before first) at field) in
     (at_first.starts, λ bits n are. at_first.tests bits n are ∙ ap (λ b. b && leads_to_yes views bits tail) (any_whole ps n are.small))
-  where
-    last : first + (32 - 32) ≡ first
-    last = omega arith
 
 -- ---- before the valid headers
 

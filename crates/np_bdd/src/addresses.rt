@@ -58,6 +58,9 @@ impl Nodes {
         if patterns.is_empty() {
             return Ok(self.no());
         }
+        if patterns.len() == 1 {
+            return Ok(self.pattern_lowest(first, width, &patterns[0], tail)?);
+        }
         if is_whole(&patterns, width) {
             return Ok(tail);
         }
@@ -105,12 +108,7 @@ fn allows(pattern: &Ternary, bit: u8, set: bool) -> bool
 }
 
 // The patterns that have numbers with this bit.
-fn side(
-    alloc: Global,
-    bit: u8,
-    set: bool,
-    patterns: &[Ternary],
-) -> Result<Vec<Ternary>, AllocError>
+fn side(alloc: Global, bit: u8, set: bool, patterns: &[Ternary]) -> Result<Vec<Ternary>, AllocError>
     requires { bit < 32 }
     ensures { IfOk result (λ v. v.items ≡ filter (allows bit set) patterns.now) }
 {

@@ -1,4 +1,3 @@
-use Rattle.std.proofs.Common.{◌∙◌}
 use Rattle.np_bdd.proofs.PatternListLemmas.{lowest_set, mask_is}
 use Rattle.np_bdd.proofs.addresses.is_wild_below.Goals as goal
 

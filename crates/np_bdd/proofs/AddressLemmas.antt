@@ -18,12 +18,12 @@ use Rattle.np_bdd.proofs.FieldLemmas.{bit_of_rest, rest_bits, split_field, field
 -- ---- the bits of a number below a power, and of such a number more
 
 -- a number has no bit from its power on
-bit_above : (n k : ℕ) → n < 2 ^ k → has_bit n k ≡ false
+pub bit_above : (n k : ℕ) → n < 2 ^ k → has_bit n k ≡ false
 unfolding has_bit
 bit_above n k l = ap (λ m. m == 1) (bit_at_above n k k l (omega arith))
 
 -- with the power added it has that bit
-bit_more : (n k : ℕ) → n < 2 ^ k → has_bit (2 ^ k + n) k ≡ true
+pub bit_more : (n k : ℕ) → n < 2 ^ k → has_bit (2 ^ k + n) k ≡ true
 unfolding has_bit
 bit_more n k l = ap (λ m. bit_at m k == 1) parts ∙ ap (λ m. m == 1) (bit_at_cat_high 1 k n k l (omega arith)) ∙ ap (λ j. bit_at 1 j == 1) none
   where
@@ -34,7 +34,7 @@ bit_more n k l = ap (λ m. bit_at m k == 1) parts ∙ ap (λ m. m == 1) (bit_at_
     none = omega arith
 
 -- and the lower bits as before
-bit_less : (n k i : ℕ) → i < k → has_bit (2 ^ k + n) i ≡ has_bit n i
+pub bit_less : (n k i : ℕ) → i < k → has_bit (2 ^ k + n) i ≡ has_bit n i
 unfolding has_bit
 bit_less n k i l = ap (λ m. bit_at m i == 1) parts ∙ ap (λ m. m == 1) (bit_at_cat_low 1 k n i l)
   where
@@ -44,14 +44,14 @@ bit_less n k i l = ap (λ m. bit_at m i == 1) parts ∙ ap (λ m. m == 1) (bit_a
 -- ---- the test of the lowest bits
 
 -- numbers with the same lowest bits pass it alike
-agree_alike : (v w m n k : ℕ) → ((i : ℕ) → i < k → has_bit m i ≡ has_bit n i) → agrees_below v w m k ≡ agrees_below v w n k
+pub agree_alike : (v w m n k : ℕ) → ((i : ℕ) → i < k → has_bit m i ≡ has_bit n i) → agrees_below v w m k ≡ agrees_below v w n k
 unfolding agrees_below
 agree_alike v w m n zero h = refl
 agree_alike v w m n (suc k) h = λ j. (has_bit w k || same_flag (h k (omega arith) j) (has_bit v k)) && agree_alike v w m n k (λ i l. h i (omega arith)) j
 
 module _ (p : Ternary) (k : ℕ) where
   -- one bit more
-  one_more : (n : ℕ) → pattern_below p (k + 1) n ≡ (agrees_at p.value p.wild n k && pattern_below p k n)
+  pub one_more : (n : ℕ) → pattern_below p (k + 1) n ≡ (agrees_at p.value p.wild n k && pattern_below p k n)
   unfolding agrees_below
   one_more n = ap (λ j. agrees_below p.value p.wild n j) next
     where
@@ -87,8 +87,12 @@ pub pattern_start : (p : Ternary) (first : ℕ) (views : List View) (tail : ℕ)
 unfolding agrees_below
 pattern_start p first views tail starts = record { starts = starts; tests = λ bits n are. refl }
 
+-- no bit is before them
+pub none_before : (first : ℕ) → first + (32 - 32) ≡ first
+none_before first = omega arith
+
 -- all are
-pub pattern_end : (p : Ternary) (first : ℕ) (views : List View) (tail x : ℕ) → TestsField (pattern_below p 32) first 32 views tail x → TestsField (ternary_has p) first 32 views tail x
+pattern_end : (p : Ternary) (first : ℕ) (views : List View) (tail x : ℕ) → TestsField (pattern_below p 32) first 32 views tail x → TestsField (ternary_has p) first 32 views tail x
 pattern_end p first views tail x tests bits n are =
     tests bits n are ∙ ap (λ b. b && leads_to_yes views bits tail) (pattern_whole p n are.small)
 
@@ -148,10 +152,13 @@ pub so_far_more : (p : Ternary) (first k : ℕ) (old views new : List View) (tai
     → IsField (pattern_below p (k + 1)) (first + (32 - (k + 1))) (k + 1) new tail z → IsSoFar p first (k + 1) old new tail z
 so_far_more p first k old views new tail x z so_far kept field = record { kept = keeps_nodes_chained old views new so_far.kept kept; field = field }
 
--- after the last
-pub so_far_end : (p : Ternary) (first : ℕ) (old views : List View) (tail x : ℕ) → IsSoFar p first 32 old views tail x
-    → StartsAt views first x × TestsField (ternary_has p) first 32 views tail x
-so_far_end p first old views tail x so_far = let field = (rw last at so_far.field) in (field.starts, pattern_end p first views tail x field.tests)
-  where
-    last : first + 0 ≡ first
-    last = omega arith
+-- ---- the whole address
+
+-- with all bits tested a node starts at the first
+pub pattern_starts : (p : Ternary) (first : ℕ) (views : List View) (tail x : ℕ) → IsField (pattern_below p 32) (first + (32 - 32)) 32 views tail x → StartsAt views first x
+pattern_starts p first views tail x field = (rw (none_before first) at field).starts
+
+-- and tests the pattern
+pub pattern_tests : (p : Ternary) (first : ℕ) (views : List View) (tail x : ℕ) → IsField (pattern_below p 32) (first + (32 - 32)) 32 views tail x
+    → TestsField (ternary_has p) first 32 views tail x
+pattern_tests p first views tail x field = pattern_end p first views tail x (rw (none_before first) at field).tests

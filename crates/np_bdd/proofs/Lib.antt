@@ -13,6 +13,7 @@ pub mod KeepingLemmas
 pub mod LeastLaws
 pub mod MemoLemmas
 pub mod NodeLaws
+pub mod PatternListLemmas
 pub mod PlaceLemmas
 pub mod RangeLemmas
 pub mod SetBits

@@ -4,8 +4,11 @@ use Rattle.std.specs.Prelude.{◌&&◌, ◌⊎◌}
 use Rattle.std.proofs.lemmas.Bool.{and_parts}
 use Rattle.np_space.specs.Header.{is_valid_header, IsValid, has_widths, HasWidths}
 use Rattle.np_space.specs.declared.headers.Header.{Header}
-use Rattle.np_space.specs.Block.{block_has}
+use Rattle.np_space.specs.Block.{address_number, block_has}
+use Rattle.np_space.specs.Patterns.{any_pattern_has}
 use Rattle.np_space.specs.declared.blocks.Block.{Block}
+use Rattle.np_space.specs.declared.blocks.AddressField.{AddressField}
+use Rattle.np_space.specs.declared.patterns.Ternary.{Ternary}
 use Rattle.np_space.proofs.HeaderLemmas.{valid_widths}
 use Rattle.np_region.specs.Keeping.{KeepsRegions}
 use Rattle.np_bdd.specs.declared.views.Node.{Node}
@@ -75,6 +78,21 @@ has_valid views x e = has_exactly is_valid_header all_valid views x e
 
 pub has_block : (b : Block) (views : List View) (x : Node) → HasHeaders (λ h. is_valid_header h && block_has b h) views x.at → (h : Header) → node_has views x h ≡ (is_valid_header h && block_has b h)
 has_block b views x e = has_exactly (λ h. is_valid_header h && block_has b h) (block_valid b) views x e
+
+-- the valid headers with one of many addresses
+abbrev pub with_address : AddressField → List Ternary → Header → Bool
+with_address field ps h = is_valid_header h && any_pattern_has ps (address_number field h)
+
+address_valid : (field : AddressField) (ps : List Ternary) → PassesValidAlone (with_address field ps)
+address_valid field ps h p = (and_parts (is_valid_header h) (any_pattern_has ps (address_number field h)) p).0
+
+pub has_addresses : (field : AddressField) (ps : List Ternary) (views : List View) (x : Node) → HasHeaders (λ h. is_valid_header h && any_pattern_has ps (address_number field h)) views x.at
+    → (h : Header) → node_has views x h ≡ (is_valid_header h && any_pattern_has ps (address_number field h))
+has_addresses field ps views x e = has_exactly (with_address field ps) (address_valid field ps) views x e
+
+pub addresses_region : (field : AddressField) (ps : List Ternary) (views : List View) (x : Node) → x.at < length views
+    → HasHeaders (λ h. is_valid_header h && any_pattern_has ps (address_number field h)) views x.at → IsRegion views x
+addresses_region field ps views x there e = region_of (with_address field ps) (address_valid field ps) views x there e
 
 -- ---- what two regions are combined to
 

@@ -1,8 +1,9 @@
 -- The fields of a header among its bits.
-use Rattle.std.specs.Prelude.{◌≡◌, ℕ, ◌+◌, ◌-◌, ◌<◌, ◌^◌, Bool, ◌&&◌, nat_le, nat_lt, List}
+use Rattle.std.specs.Prelude.{◌≡◌, ℕ, ◌+◌, ◌-◌, ◌<◌, ◌^◌, Bool, ◌&&◌, ◌||◌, nat_le, nat_lt, List}
 use Rattle.np_space.specs.Bit.{has_bit}
 use Rattle.np_bdd.specs.declared.views.View.{View}
-use Rattle.np_space.specs.Flag.{flag_number}
+use Rattle.std.specs.List.{list_any}
+use Rattle.np_space.specs.Flag.{flag_number, same_flag}
 use Rattle.np_space.specs.Span.{span_has}
 use Rattle.np_space.specs.Ternary.{agrees_below}
 use Rattle.np_space.specs.declared.patterns.Ternary.{Ternary}
@@ -46,3 +47,11 @@ range_has low end n = nat_le low n && nat_lt n end
 -- the number agrees with the pattern on as many of its lowest bits
 abbrev pub pattern_below : Ternary → ℕ → ℕ → Bool
 pattern_below p k n = agrees_below p.value p.wild n k
+
+-- it does so with some of the patterns
+abbrev pub any_below : List Ternary → ℕ → ℕ → Bool
+any_below patterns k n = list_any (λ p. pattern_below p k n) patterns
+
+-- the pattern has numbers with this bit
+abbrev pub allows : ℕ → Bool → Ternary → Bool
+allows i bit p = has_bit p.wild i || same_flag bit (has_bit p.value i)

@@ -2,7 +2,8 @@
 
 ghost use Rattle.std.specs.Prelude.{◌≡◌, ◌↔◌, ◌==◌, ◌&&◌, ◌||◌, not, true, false, [], ◌∷◌, ◌+◌, ◌<◌, ℕ, length, IsTrue, IsNone, IfSome, IfOk};
 ghost use Rattle.np_space.specs.Header.{is_valid_header, IsValid, IsLeast, HasWidths};
-ghost use Rattle.np_space.specs.Block.{block_has};
+ghost use Rattle.np_space.specs.Block.{address_number, block_has};
+ghost use Rattle.np_space.specs.Patterns.{any_pattern_has};
 ghost use Rattle.np_space.specs.declared.headers.Header.{Header};
 ghost use Rattle.np_region.specs.Keeping.{KeepsRegions};
 ghost use Rattle.np_bdd.specs.declared.views.View.TheVariants.{No, Yes};
@@ -15,7 +16,7 @@ use crate::combining::Operation;
 use crate::nodes::Nodes;
 use crate::views::{Node, View};
 use np_region::Regions;
-use np_space::{Block, Header};
+use np_space::{AddressField, Block, Header, Ternary};
 use std::alloc::{AllocError, Global};
 use std::marker::Model;
 
@@ -194,6 +195,21 @@ impl Regions for Diagrams {
     {
         let valid = self.valid_node()?;
         self.nodes.valid_of(self.alloc, valid, block)
+    }
+
+    #[tactic(auto, using(crate::proofs::StoreLemmas::regions_kept, crate::proofs::StoreLemmas::has_addresses, crate::proofs::StoreLemmas::addresses_region))]
+    fn of_addresses(
+        &mut self,
+        field: AddressField,
+        patterns: &[Ternary],
+    ) -> Result<Node, AllocError>
+        ensures kept { KeepsRegions IsRegion node_has self.old self.new }
+        ensures views { KeepsViews self.old self.new }
+        ensures fits { IfOk result (λ x. IsRegion self.new x) }
+        ensures exact { IfOk result (λ x. (h : Header) → node_has self.new x h ≡ (is_valid_header h && any_pattern_has patterns.now (address_number field h))) }
+    {
+        let valid = self.valid_node()?;
+        self.nodes.valid_with(self.alloc, valid, field, patterns)
     }
 
     fn meet(&mut self, x: &Node, y: &Node) -> Result<Node, AllocError>

@@ -16,7 +16,7 @@ impl Nodes {
 
     /// The node that tests whether the pattern has the address of 32 bits from the first one on, and
     /// goes on at the tail.
-    #[tactic(auto, using(crate::proofs::KeepingLemmas::keeps_nodes_chained, crate::proofs::AddressLemmas::so_far_more, crate::proofs::AddressLemmas::so_far_end))]
+    #[tactic(auto, using(crate::proofs::AddressLemmas::pattern_starts))]
     pub(crate) fn pattern(
         &mut self,
         first: u8,
@@ -29,8 +29,27 @@ impl Nodes {
         ensures starts { IfOk result (λ z. StartsAt self.new first z.at) }
         ensures tests { IfOk result (λ z. TestsField (ternary_has pattern.now) first 32 self.new tail.at z.at) }
     {
+        Ok(self.pattern_lowest(first, 32, pattern, tail)?)
+    }
+
+    /// The node that tests whether the pattern agrees with the lowest bits of the address of 32 bits from
+    /// the first one on, as many as the width says, and goes on at the tail.
+    #[tactic(auto, using(crate::proofs::KeepingLemmas::keeps_nodes_chained, crate::proofs::AddressLemmas::so_far_more))]
+    pub(crate) fn pattern_lowest(
+        &mut self,
+        first: u8,
+        width: u8,
+        pattern: &Ternary,
+        tail: Node,
+    ) -> Result<Node, AllocError>
+        requires narrow { width ≤ 32 }
+        requires fits { first + 32 ≤ 111 }
+        requires tail { StartsAt self.old (first + 32) tail.at }
+        ensures kept { KeepsNodes self.old self.new }
+        ensures is { IfOk result (λ z. IsField (pattern_below pattern.now width) (first + (32 - width)) width self.new tail.at z.at) }
+    {
         let mut node = tail;
-        for k in 0..32 {
+        for k in 0..width {
             node = self.pattern_bit(first, pattern, k, tail, node)?;
         }
         Ok(node)

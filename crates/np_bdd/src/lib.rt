@@ -1,6 +1,7 @@
 //! The store whose regions are nodes of one ordered reduced decision diagram.
 #![tactic(auto)]
 
+mod addresses;
 mod combining;
 mod diagrams;
 mod fields;

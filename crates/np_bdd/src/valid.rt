@@ -1,14 +1,17 @@
 //! The nodes of valid headers.
 
 ghost use Rattle.std.specs.Prelude.{◌≡◌, ◌&&◌, ◌||◌, Bool, ◌<◌, ◌≤◌, length, IfOk};
-ghost use Rattle.np_space.specs.Header.{is_valid_header};
-ghost use Rattle.np_space.specs.Block.{block_has};
+ghost use Rattle.np_space.specs.Header.{is_valid_header, HasWidths};
+ghost use Rattle.np_space.specs.Block.{address_number, block_has};
+ghost use Rattle.np_space.specs.Patterns.{any_pattern_has};
 ghost use Rattle.np_space.specs.declared.headers.Header.{Header};
+ghost use Rattle.np_bdd.specs.Views.{bits_of_header};
+ghost use Rattle.np_bdd.specs.Fields.{AreBitsOf};
 
 use crate::combining::Operation;
 use crate::nodes::Nodes;
 use crate::views::Node;
-use np_space::{Block, valid_blocks};
+use np_space::{AddressField, Block, Ternary, valid_blocks};
 use std::alloc::{AllocError, Global};
 
 impl Nodes {
@@ -62,5 +65,35 @@ impl Nodes {
         let both = self.combined(alloc, Operation::Meet, valid, lower)?;
         let dst = self.pattern(32, &block.dst, both)?;
         Ok(self.pattern(0, &block.src, dst)?)
+    }
+
+    /// The node of the valid headers whose address of this kind is in one of the patterns. The node that
+    /// is handed in is that of all valid headers.
+    #[tactic(auto, using(crate::proofs::PatternListLemmas::starts_later))]
+    pub(crate) fn valid_with(
+        &mut self,
+        alloc: Global,
+        valid: Node,
+        field: AddressField,
+        patterns: &[Ternary],
+    ) -> Result<Node, AllocError>
+        requires starts { StartsAt self.old 64 valid.at }
+        requires valid { HasHeaders is_valid_header self.old valid.at }
+        ensures kept { KeepsNodes self.old self.new }
+        ensures there { IfOk result (λ z. z.at < length self.new) }
+        ensures exact { IfOk result (λ z. HasHeaders (λ h. is_valid_header h && any_pattern_has patterns.now (address_number field h)) self.new z.at) }
+    {
+        Ok(self.patterns(alloc, first_bit(field), patterns, valid)?)
+    }
+}
+
+// The first bit of the address among those of a header.
+fn first_bit(field: AddressField) -> u8
+    ensures early { result ≤ 32 }
+    ensures bits { (h : Header) → HasWidths h → AreBitsOf (bits_of_header h) result 32 (address_number field h) }
+{
+    match field {
+        AddressField::Src => 0,
+        AddressField::Dst => 32,
     }
 }

@@ -1,18 +1,21 @@
 -- Lists of blocks that stand for regions: counts, disjointness, and the blocks of the valid headers.
-use Rattle.std.proofs.Common.{◌≡◌, ℕ, zero, suc, ◌+◌, ◌*◌, ◌<◌, ◌≤◌, ◌^◌, Bool, true, false, List, [], ◌∷◌, ◌++◌, length, get_or, refl, sym, ◌∙◌, ap, arith, lit<, inl, inr, nat_eq}
-use Rattle.std.specs.Prelude.{◌&&◌, ◌||◌, not, map, if◌then◌else◌}
+use Rattle.std.proofs.Common.{◌≡◌, ℕ, zero, suc, ◌+◌, ◌*◌, ◌<◌, ◌≤◌, ◌^◌, Bool, true, false, List, [], ◌∷◌, ◌++◌, length, get_or, take, refl, sym, ◌∙◌, ap, arith, lit<, inl, inr, nat_eq}
+use Rattle.std.specs.Prelude.{◌&&◌, ◌||◌, ◌==◌, not, map, if◌then◌else◌}
 use Rattle.std.specs.List.{All}
-use Rattle.std.proofs.lemmas.Bool.{true≢false, eqb-true, and_parts, or_left, or_right, or_cases}
+use Rattle.std.proofs.lemmas.Bool.{true≢false, eqb-true, and_parts, and_right, or_left, or_right, or_cases}
 use Rattle.std.proofs.lemmas.List.{length-map, get_or-map}
 use Rattle.std.proofs.lemmas.List.Elements.{All-nil, All-push, All-append}
-use Rattle.std.proofs.lemmas.List.Folds.{Any-from_list_any}
+use Rattle.std.proofs.lemmas.List.Folds.{Any-from_list_any, list_any_more}
 use Rattle.np_space.specs.Flag.{flag_number}
-use Rattle.np_space.specs.Header.{is_valid_header, IsLeast, header_le}
-use Rattle.np_space.specs.Block.{block_has, block_numbers, valid_table, count_having, any_has, AreDisjoint}
+use Rattle.np_space.specs.Header.{is_valid_header, has_widths, numbers_fit, IsLeast, header_le}
+use Rattle.np_space.specs.Ternary.{ternary_has}
+use Rattle.np_space.specs.Patterns.{any_pattern_has}
+use Rattle.np_space.specs.Block.{address_number, block_has, block_numbers, valid_table, count_having, any_has, AreDisjoint}
 use Rattle.np_space.specs.declared.headers.Header.{Header}
 use Rattle.np_space.specs.declared.patterns.Ternary.{Ternary}
 use Rattle.np_space.specs.declared.spans.Span.{Span}
 use Rattle.np_space.specs.declared.blocks.Block.{Block}
+use Rattle.np_space.specs.declared.blocks.AddressField.{AddressField}
 use Rattle.np_space.proofs.AlgebraLemmas.{count_none, count_push, count_append, count_at, count_is_any, any_from_count, any_append, disjoint_from_count}
 use Rattle.np_space.proofs.FlagLemmas.{flag_small, and_true, or_false}
 use Rattle.np_space.proofs.BlockLemmas.{least_of, has_least}
@@ -269,6 +272,47 @@ union_listed xs ys rest list beside =
     by false true = refl
     by true false = refl
     by true true = refl
+
+-- a valid header has the widths
+widths_follow : (h : Header) (t : Bool) → (is_valid_header h && (has_widths h && t)) ≡ (is_valid_header h && t)
+unfolding is_valid_header
+widths_follow h t = by (has_widths h) (h.proto == 6 || not h.est) (numbers_fit h.proto h.a h.b) where
+  by : (w f n : Bool) → ((w && f && n) && (w && t)) ≡ ((w && f && n) && t)
+  by false f n = refl
+  by true f n = refl
+
+-- a list with what a pattern has among the valid headers
+pub and_pattern_listed : (field : AddressField) (p : Ternary) (block : Block) (xs ys one new : List Block) → ((h : Header) → block_has block h ≡ (has_widths h && ternary_has p (address_number field h)))
+    → IsListOf (λ h. is_valid_header h && block_has block h) one → ys ≡ one → IsListOf (λ h. any_has xs h || any_has ys h) new
+    → IsListOf (λ h. any_has xs h || (is_valid_header h && ternary_has p (address_number field h))) new
+and_pattern_listed field p block xs ys one new has of_one same both =
+    relisted (λ h. any_has xs h || any_has ys h) (λ h. any_has xs h || (is_valid_header h && ternary_has p (address_number field h))) new both
+    (λ h.
+    ap (λ l. any_has xs h || any_has l h) same
+    ∙ ap (λ b. any_has xs h || b) (of_one.exact h ∙ ap (λ b. is_valid_header h && b) (has h) ∙ widths_follow h (ternary_has p (address_number field h))))
+
+-- no pattern has anything
+pub none_with : (field : AddressField) → IsListOf (λ h. is_valid_header h && any_pattern_has [] (address_number field h)) []
+none_with field =
+    listed (λ h. is_valid_header h && any_pattern_has [] (address_number field h)) [] (λ h. count_none h ∙ ap flag_number (sym (and_right (is_valid_header h) false refl))) (All-nil LiesInValidBlock)
+
+-- what the patterns so far have, and one more
+pub with_more : (field : AddressField) (ps : List Ternary) (i : ℕ) (p d : Ternary) (xs ys new : List Block) → i < length ps → p ≡ get_or ps i d
+    → IsListOf (λ h. is_valid_header h && any_pattern_has (take i ps) (address_number field h)) xs → ys ≡ xs
+    → IsListOf (λ h. any_has ys h || (is_valid_header h && ternary_has p (address_number field h))) new
+    → IsListOf (λ h. is_valid_header h && any_pattern_has (take (i + 1) ps) (address_number field h)) new
+with_more field ps i p d xs ys new within is so_far same more =
+    relisted (λ h. any_has ys h || (is_valid_header h && ternary_has p (address_number field h))) (λ h. is_valid_header h && any_pattern_has (take (i + 1) ps) (address_number field h)) new more
+    (λ h.
+    ap (λ l. any_has l h || (is_valid_header h && ternary_has p (address_number field h))) same
+    ∙ ap (λ b. b || (is_valid_header h && ternary_has p (address_number field h))) (so_far.exact h)
+    ∙ by (is_valid_header h) (any_pattern_has (take i ps) (address_number field h)) (ternary_has p (address_number field h))
+    ∙ ap (λ q. is_valid_header h && (any_pattern_has (take i ps) (address_number field h) || ternary_has q (address_number field h))) is
+    ∙ ap (λ b. is_valid_header h && b) (sym (list_any_more (λ q. ternary_has q (address_number field h)) ps i d within)))
+  where
+    by : (v s t : Bool) → ((v && s) || (v && t)) ≡ (v && (s || t))
+    by false s t = refl
+    by true s t = refl
 
 -- the blocks of the valid headers
 pub whole_listed : (blocks : List Block) → map block_numbers blocks ≡ valid_table → ((h : Header) → count_having blocks h ≡ flag_number (is_valid_header h)) → IsListOf is_valid_header blocks

@@ -4,7 +4,7 @@ ghost use Rattle.std.specs.Prelude.{◌≡◌, IfOk, [], ◌&&◌, ◌||◌, not
 
 use crate::lists;
 use crate::regions::Regions;
-use np_space::{Block, Header};
+use np_space::{AddressField, Block, Header, Ternary};
 use std::alloc::{AllocError, Global};
 use std::marker::Model;
 
@@ -74,6 +74,15 @@ impl Regions for BlockLists {
 
     fn of_block(&mut self, block: &Block) -> Result<BlockList, AllocError> {
         let blocks = lists::valid_of(self.alloc, block)?;
+        Ok(BlockList { blocks })
+    }
+
+    fn of_addresses(
+        &mut self,
+        field: AddressField,
+        patterns: &[Ternary],
+    ) -> Result<BlockList, AllocError> {
+        let blocks = lists::valid_with(self.alloc, field, patterns)?;
         Ok(BlockList { blocks })
     }
 

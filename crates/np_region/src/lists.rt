@@ -4,11 +4,13 @@ ghost use Rattle.std.specs.Prelude.{◌≡◌, ◌↔◌, ◌*◌, ◌&&◌, ◌
 ghost use Rattle.std.specs.List.{All};
 ghost use Rattle.np_space.specs.Flag.{flag_number};
 ghost use Rattle.np_space.specs.Header.{is_valid_header, header_le, IsLeast};
-ghost use Rattle.np_space.specs.Block.{block_has, count_having, any_has};
+ghost use Rattle.np_space.specs.Ternary.{ternary_has};
+ghost use Rattle.np_space.specs.Patterns.{any_pattern_has};
+ghost use Rattle.np_space.specs.Block.{address_number, block_has, count_having, any_has};
 ghost use Rattle.np_space.specs.declared.headers.Header.{Header};
 ghost use Rattle.np_region.specs.BlockLists.{LiesInValidBlock, IsBlockList, IsListOf, HasAdded, IsLeastIfAny};
 
-use np_space::{Block, Header, meet, minus, order, valid_blocks};
+use np_space::{AddressField, Block, Header, Ternary, meet, minus, order, valid_blocks};
 use std::alloc::{AllocError, Global};
 
 // Adds the headers that both blocks have.
@@ -113,6 +115,35 @@ pub(crate) fn union(alloc: Global, xs: &[Block], ys: &[Block]) -> Result<Vec<Blo
 {
     let mut blocks = difference(alloc, ys, xs)?;
     blocks.extend_from_slice(xs)?;
+    Ok(blocks)
+}
+
+// The headers of the list, and the valid ones whose address of this kind is in the pattern.
+fn and_pattern(
+    alloc: Global,
+    blocks: &[Block],
+    field: AddressField,
+    pattern: Ternary,
+) -> Result<Vec<Block>, AllocError>
+    requires { IsBlockList blocks.now }
+    ensures { IfOk result (λ v. IsListOf (λ h. any_has blocks.now h || (is_valid_header h && ternary_has pattern (address_number field h))) v.items) }
+{
+    let one = valid_of(alloc, &Block::of_address(field, pattern))?;
+    Ok(union(alloc, blocks, &one)?)
+}
+
+// The valid headers whose address of this kind is in one of the patterns.
+pub(crate) fn valid_with(
+    alloc: Global,
+    field: AddressField,
+    patterns: &[Ternary],
+) -> Result<Vec<Block>, AllocError>
+    ensures { IfOk result (λ v. IsListOf (λ h. is_valid_header h && any_pattern_has patterns.now (address_number field h)) v.items) }
+{
+    let mut blocks = Vec::new(alloc);
+    for pattern in patterns {
+        blocks = and_pattern(alloc, &blocks, field, *pattern)?;
+    }
     Ok(blocks)
 }
 

@@ -2,11 +2,12 @@
 
 ghost use Rattle.std.specs.Prelude.{◌≡◌, ◌↔◌, Bool, false, ◌&&◌, ◌||◌, not, IsTrue, IsNone, IfSome, IfOk};
 ghost use Rattle.np_space.specs.Header.{is_valid_header, IsValid, IsLeast};
-ghost use Rattle.np_space.specs.Block.{block_has};
+ghost use Rattle.np_space.specs.Block.{address_number, block_has};
+ghost use Rattle.np_space.specs.Patterns.{any_pattern_has};
 ghost use Rattle.np_space.specs.declared.headers.Header.{Header};
 ghost use Rattle.np_region.specs.Keeping.{KeepsRegions};
 
-use np_space::{Block, Header};
+use np_space::{AddressField, Block, Header, Ternary};
 use std::alloc::AllocError;
 
 /// A store of regions: sets of valid headers that are made of blocks and of one another (Guttman and
@@ -42,6 +43,18 @@ pub trait Regions {
         ensures kept { KeepsRegions fits has_header self.old self.new }
         ensures fits { IfOk result (λ x. fits self.new x) }
         ensures exact { IfOk result (λ x. (h : Header) → has_header self.new x h ≡ (is_valid_header h && block_has block.now h)) };
+
+    /// The valid headers whose address of this kind is in one of the patterns, which may be many: as an
+    /// area's sources are. The patterns may stand in any order, overlap and be repeated; of no pattern it
+    /// is the region without headers.
+    fn of_addresses(
+        &mut self,
+        field: AddressField,
+        patterns: &[Ternary],
+    ) -> Result<Self::R, AllocError>
+        ensures kept { KeepsRegions fits has_header self.old self.new }
+        ensures fits { IfOk result (λ x. fits self.new x) }
+        ensures exact { IfOk result (λ x. (h : Header) → has_header self.new x h ≡ (is_valid_header h && any_pattern_has patterns.now (address_number field h))) };
 
     /// The headers that both regions have.
     fn meet(&mut self, x: &Self::R, y: &Self::R) -> Result<Self::R, AllocError>

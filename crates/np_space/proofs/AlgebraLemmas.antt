@@ -1,16 +1,18 @@
 -- The algebra of blocks: common headers, differences, and counts over lists of blocks.
 use Rattle.std.proofs.Common.{◌≡◌, ℕ, zero, suc, ◌+◌, ◌<◌, ◌≤◌, Bool, true, false, List, [], ◌∷◌, ◌++◌, length, get_or, cond, refl, sym, ◌∙◌, ap, arith, inl, inr, nat_lt, nat_le}
 use Rattle.std.specs.Prelude.{◌&&◌, ◌||◌, not, ◌↔◌, Option, Some, None, IsNone, Result, Ok, Err, IfOk, IsTrue, count_by}
-use Rattle.std.proofs.lemmas.Bool.{and_parts, and_right, true≢false, cases_Bool, ltb-true, ltb-false}
+use Rattle.std.proofs.lemmas.Bool.{and_parts, and_right, true≢false, cases_Bool, lt-ltb, ltb-true, ltb-false}
 use Rattle.std.proofs.lemmas.Bool.Decides.{nat_tests}
 use Rattle.std.proofs.lemmas.List.Sums.{sum_by-cons, sum_by_push, sum_by-append}
 use Rattle.std.proofs.lemmas.List.Folds.{list_any_at, list_any-append, list_any_none}
 use Rattle.std.proofs.lemmas.List.Kept.{AllPairs-cons}
 use Rattle.np_space.specs.Bit.{has_bit}
 use Rattle.np_space.specs.Flag.{flag_number, same_flag, some_has}
+use Rattle.np_space.specs.Header.{has_widths}
+use Rattle.np_space.specs.Patterns.{any_address}
 use Rattle.np_space.specs.Span.{span_has, IsPartOf}
 use Rattle.np_space.specs.Ternary.{ternary_has, SameBit}
-use Rattle.np_space.specs.Block.{block_has, address_of, span_of, has_with_address, has_with_span, count_having, any_has, AreApart, AreDisjoint, HasMoved}
+use Rattle.np_space.specs.Block.{block_has, everything, address_of, address_number, span_of, has_with_address, has_with_span, count_having, any_has, AreApart, AreDisjoint, HasMoved}
 use Rattle.np_space.specs.declared.headers.Header.{Header}
 use Rattle.np_space.specs.declared.patterns.Ternary.{Ternary}
 use Rattle.np_space.specs.declared.spans.Span.{Span}
@@ -21,7 +23,8 @@ use Rattle.np_space.specs.declared.blocks.SpanField.{SpanField}
 use Rattle.np_space.specs.declared.blocks.SpanField.TheVariants.{Proto, A, B, Est, Dscp}
 use Rattle.np_space.proofs.FlagLemmas.{and_swap, and_true, and_join, and_sum, and_sum_three, flag_small, flag_apart}
 use Rattle.np_space.proofs.BlockLemmas.{fields_in, least_of, has_least}
-use Rattle.np_space.proofs.PatternLemmas.{pattern_same}
+use Rattle.np_space.proofs.MadeLemmas.{any_address-has, everything-has}
+use Rattle.np_space.proofs.PatternLemmas.{pattern_same, pattern_width}
 
 -- ---- the common headers
 
@@ -116,11 +119,6 @@ fifth_last s d p a true e c = ap (λ t. t && e && c) (and_true (s && d && p && a
 sixth_last : (s d p a b e c : Bool) → (s && d && p && a && b && e && c) ≡ ((s && d && p && a && b && c) && e)
 sixth_last s d p a b e c = and_swap (s && d && p && a && b) e c
 
--- the number that the field's pattern is about
-abbrev pub address_number : AddressField → Header → ℕ
-address_number Src h = h.src
-address_number Dst h = h.dst
-
 -- the number that the field's span is about
 abbrev pub span_number : SpanField → Header → ℕ
 span_number Proto h = h.proto
@@ -162,6 +160,25 @@ pub own_address : (field : AddressField) (b : Block) (h : Header) → has_with_a
 unfolding has_with_address block_has
 own_address Src b h = refl
 own_address Dst b h = refl
+
+-- the widest block with a pattern tests the pattern, and that the fields are of their widths
+pub address_alone : (field : AddressField) (p : Ternary) (h : Header) → has_with_address field p everything h ≡ (has_widths h && ternary_has p (address_number field h))
+address_alone field p h =
+    address_apart field everything h p
+    ∙ by (other_address field everything h) (ternary_has any_address v) (ternary_has p v) (λ has. any_address-has v ∙ lt-ltb v 4294967296 (pattern_width p.value p.wild v has))
+    ∙ ap (λ b. b && ternary_has p v) (any field ∙ own_address field everything h ∙ everything-has h)
+  where
+    v : ℕ
+    v = address_number field h
+
+    by : (s t u : Bool) → (u ≡ true → t ≡ true) → (s && u) ≡ ((s && t) && u)
+    by false t u f = refl
+    by true t false f = sym (and_right t false refl)
+    by true t true f = sym (f refl) ∙ sym (and_true t)
+
+    any : (f : AddressField) → (other_address f everything h && ternary_has any_address (address_number f h)) ≡ has_with_address f (address_of f everything) everything h
+    any Src = sym (address_apart Src everything h any_address)
+    any Dst = sym (address_apart Dst everything h any_address)
 
 -- patterns with the same bits make the same block
 pub same_address : (field : AddressField) (b : Block) (h : Header) (p q : Ternary) → ((i : ℕ) → i < 32 → SameBit p q i) → has_with_address field p b h ≡ has_with_address field q b h

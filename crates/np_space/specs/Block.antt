@@ -64,6 +64,11 @@ abbrev pub address_of : AddressField → Block → Ternary
 address_of Src b = b.src
 address_of Dst b = b.dst
 
+-- the address of a header in an address field
+abbrev pub address_number : AddressField → Header → ℕ
+address_number Src h = h.src
+address_number Dst h = h.dst
+
 -- the span of a field of numbers
 abbrev pub span_of : SpanField → Block → Span
 span_of Proto b = b.proto

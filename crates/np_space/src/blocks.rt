@@ -29,10 +29,12 @@ pub struct Block {
     ghost dscp_width: { dscp.high ≤ 63 },
 }
 
-// A field of a block that has a pattern.
+/// A field of a header that is an address, so that a block has a pattern for it.
 #[derive(Clone, Copy)]
-pub(crate) enum AddressField {
+pub enum AddressField {
+    /// The source.
     Src,
+    /// The destination.
     Dst,
 }
 
@@ -47,9 +49,10 @@ pub(crate) enum SpanField {
 }
 
 impl Block {
-    ghost use Rattle.std.specs.Prelude.{ℕ};
+    ghost use Rattle.std.specs.Prelude.{ℕ, ◌&&◌};
     ghost use Rattle.np_space.specs.Header.{IsLeast, has_widths};
-    ghost use Rattle.np_space.specs.Block.{everything, block_has, address_of, span_of, has_with_address, has_with_span};
+    ghost use Rattle.np_space.specs.Ternary.{ternary_has};
+    ghost use Rattle.np_space.specs.Block.{everything, block_has, address_of, address_number, span_of, has_with_address, has_with_span};
     ghost use Rattle.np_space.specs.declared.headers.Header.{Header};
 
     /// The block of the headers whose fields are of their widths: all addresses, the protocols to 255,
@@ -69,6 +72,15 @@ impl Block {
             est: Span::from_to(0, 1),
             dscp: Span::from_to(0, 63),
         }
+    }
+
+    /// The block of the headers whose address of this kind is in the pattern, and whose other fields are
+    /// of their widths.
+    #[tactic(auto, using(crate::proofs::AlgebraLemmas::address_alone))]
+    pub fn of_address(field: AddressField, pattern: Ternary) -> Block
+        ensures { (h : Header) → block_has result h ≡ (has_widths h && ternary_has pattern (address_number field h)) }
+    {
+        Block::everything().with_address(field, pattern)
     }
 
     /// Whether each field of the header is in the field's pattern or span; `est` counts as 0 or 1.

@@ -13,7 +13,7 @@ mod valid;
 
 pub use address_lists::any_pattern_has;
 pub use algebra::{meet, minus};
-pub use blocks::Block;
+pub use blocks::{AddressField, Block};
 pub use headers::{Header, is_valid, order};
 pub use laws::{
     each_class_has_one_least, leasts_are_unique, order_is_by_bits, order_is_total,

@@ -1,7 +1,7 @@
 #!/usr/bin/env python3
 """Runs `netpol` on inputs that are as large, as deep or as awkward as its limits allow.
 
-Usage: bench/hostile.py PROGRAM [WORD]
+Usage: bench/hostile.py PROGRAM [WORD]    (wants `cc` for some names)
 
 Each run has to end by itself within 30 seconds of the processor, with the status and, where one is known, the text that
 its case says. It has the usual stack of 8 MiB, and 8 GiB of address space, so that it can't take the machine with it; it
@@ -132,25 +132,59 @@ def shared():
         yield f'256 devices, one file {name}', {'net': net, 'r.cfg': config}, ['check', 'net'], None
 
 
-# The last 8 of 16 bytes by which a name's hash is the same whatever the first 8 are.
-SAME_HASH = (0x9e3779b97f4a7c15).to_bytes(8, 'little')
+# Prints names of 9 bytes whose hashes, as the kit's maps make them, end in 16 bits 0. Finding them takes some seconds.
+SAME_PLACE = '''
+#include <stdint.h>
+#include <stdio.h>
+#include <stdlib.h>
+#define MULTIPLIER 0x9e3779b97f4a7c15ull
+static inline uint64_t after(uint64_t state, uint64_t fed, uint64_t length) {
+    unsigned __int128 product = (unsigned __int128)(state ^ fed) * (MULTIPLIER ^ 2 * length);
+    return (uint64_t)product ^ (uint64_t)(product >> 64);
+}
+int main(int count, char **words) {
+    long left = atol(words[1]);
+    for (long first = 0; left; first++) {
+        unsigned char name[9];
+        long rest = first;
+        uint64_t state = after(0x243f6a8885a308d3ull, 9, 8);
+        for (int k = 0; k < 7; k++, rest /= 26) state = after(state, (name[k] = 'a' + rest % 26) * 0x010101ull, 1);
+        for (int k = 33; k < 256; k++)
+            for (int n = 33; n < 256; n++) {
+                uint64_t hash = after(after(state, k * 0x010101ull, 1), n * 0x010101ull, 1);
+                if (left && ((hash ^ hash >> 32) & 65535) == 0) name[7] = k, name[8] = n, left--, fwrite(name, 1, 9, stdout);
+            }
+    }
+}
+'''
 
 
-def many_lists(count, last):
-    return b''.join(b'ip access-list extended %08d%s\n' % (k, last) for k in range(count))
+def names_at_one_place(count):
+    """So many names that a map of the kit puts into one place. This wants a C compiler."""
+    with tempfile.TemporaryDirectory() as folder:
+        made = os.path.join(folder, 'same')
+        subprocess.run(['cc', '-O2', '-x', 'c', '-', '-o', made], input=SAME_PLACE.encode(), check=True)
+        text = subprocess.run([made, str(count)], stdout=subprocess.PIPE, check=True).stdout
+    return [text[at:at + 9] for at in range(0, len(text), 9)]
 
 
-def many_interfaces(count, last):
-    return b''.join(b'interface %08d%s\n ip access-group A in\n' % (k, last) for k in range(count))
+def many_lists(found):
+    return b''.join(b'ip access-list extended %s\n' % name for name in found)
+
+
+def many_interfaces(found):
+    return b''.join(b'interface %s\n ip access-group A in\n' % name for name in found)
 
 
 def names():
-    """Very many lists and interfaces in one configuration, and such names as have the same hash."""
-    for count in (20000, 40000, 80000, 340000):
+    """Very many lists and interfaces in one configuration: with plain names, and with such as a map puts into one place."""
+    for count in (20000, 40000, 160000, 370000):
         for what, made in (('lists', many_lists), ('interfaces', many_interfaces)):
-            for name, last in (('', b'ABCDEFGH'), (' whose names have the same hash', SAME_HASH)):
-                config = lambda made=made, count=count, last=last: made(count, last)
-                yield f'{count} {what}{name}', {'net': NET, 'r.cfg': config}, ['check', 'net'], TCP
+            config = lambda made=made, count=count: made(b'%09d' % k for k in range(count))
+            yield f'{count} {what}', {'net': NET, 'r.cfg': config}, ['check', 'net'], TCP
+            if count <= 160000:
+                config = lambda made=made, count=count: made(names_at_one_place(count))
+                yield f'{count} {what} whose names have one place', {'net': NET, 'r.cfg': config}, ['check', 'net'], TCP
 
 
 def wide():

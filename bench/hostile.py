@@ -97,7 +97,7 @@ def many_prefixes(count, goals):
 def named_often(count, times):
     """An area with so many prefixes, which one goal names so many times."""
     area = 'area a ' + ','.join(address(k << 8) for k in range(count))
-    return area + '\narea b none\ngoal a b never ' + balanced(['src a'] * times, 'or') + '\n'
+    return area + '\narea b none\ndevice r\ninterface r e0 a\ninterface r e1 b\ngoal a b never ' + balanced(['src a'] * times, 'or') + '\n'
 
 
 def many_words(count):
@@ -115,6 +115,9 @@ def prefixes():
     for times in (1000, 10000, 100000):
         yield (f'10000 prefixes that one goal names {times} times: show', {'net': lambda times=times: named_often(10000, times)},
                ['show', 'net'], None)
+    for count, times in ((10000, 100), (3000, 300), (3000, 3000)):
+        yield (f'{count} prefixes that one goal names {times} times: check', {'net': lambda count=count, times=times: named_often(count, times)},
+               ['check', 'net'], None)
     for count in (100000, 400000):
         yield f'a predicate of {count} addresses: check', {'net': lambda count=count: many_words(count)}, ['check', 'net'], None
 

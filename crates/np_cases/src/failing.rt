@@ -127,7 +127,7 @@ fn expect_taken<R: Threads + Sync + Abort>(
 ) -> Result<(), Fail> {
     let mut files = held(alloc, 0)?;
     let status = status(rt, alloc, &["check", "net"], &mut files, sink)?;
-    compare(rt, "a sink that fails", sink, status, text, number);
+    compare(rt, "a sink that fails", &*sink, status, text, number);
     Ok(())
 }
 

@@ -156,22 +156,24 @@ def strange_streams(program):
     yield 'output that is closed', closed.returncode == 5
 
 
-def example(program):
-    """The example of the README, whose text and output stand in the README as they stand in its folder."""
-    folder = os.path.join(TOP, 'examples', 'three-areas')
-    with open(os.path.join(folder, 'expected')) as file:
-        expected = file.read()
-    done = subprocess.run([program, 'check', 'net'], cwd=folder, capture_output=True, timeout=60)
-    yield 'the example', (done.returncode, done.stdout) == (1, expected.encode())
+def examples(program):
+    """The examples, each with its output beside it, and that of the README, whose output stands in the README too."""
+    for name in ('three-areas', 'branch-office'):
+        folder = os.path.join(TOP, 'examples', name)
+        with open(os.path.join(folder, 'expected')) as file:
+            expected = file.read()
+        done = subprocess.run([program, 'check', 'net'], cwd=folder, capture_output=True, timeout=60)
+        yield f'the example {name}', (done.returncode, done.stdout) == (1, expected.encode())
+    with open(os.path.join(TOP, 'examples', 'three-areas', 'expected')) as file:
+        shown = ''.join('    ' + line for line in file)
     with open(os.path.join(TOP, 'README.md')) as file:
-        shown = ''.join('    ' + line + '\n' for line in expected.splitlines())
         yield 'the example\'s output in the README', shown in file.read()
 
 
 def main():
     program = os.path.abspath(sys.argv[1])
     passed = failed = 0
-    for runs in (table, at_size, strange_streams, example):
+    for runs in (table, at_size, strange_streams, examples):
         for case, good in runs(program):
             if good:
                 passed += 1

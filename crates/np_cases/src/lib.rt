@@ -12,6 +12,10 @@ mod check;
 #[cfg(test)]
 mod cuts;
 #[cfg(test)]
+mod failing;
+#[cfg(test)]
+mod hostile;
+#[cfg(test)]
 mod ipsec;
 #[cfg(test)]
 mod networks;

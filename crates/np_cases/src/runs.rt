@@ -40,7 +40,14 @@ fn status_in<R: Threads + Sync, G: Atomizer>(
 }
 
 /// Compares what a run gave with the text and the status that it has to give.
-fn compare<R: Abort>(rt: &R, case: &str, sink: &MemSink, status: u8, text: &[u8], number: u8) {
+pub(crate) fn compare<R: Abort>(
+    rt: &R,
+    case: &str,
+    sink: &MemSink,
+    status: u8,
+    text: &[u8],
+    number: u8,
+) {
     assert_eq!(rt; status, number, "the status of {case}");
     assert_eq!(rt; sink.bytes(), text, "the text of {case}");
 }

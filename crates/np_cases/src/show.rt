@@ -239,7 +239,7 @@ fn as_many_areas_as_there_may_be(rt: HostRuntime) -> Result<(), Fail> {
 }
 
 /// An area, a device, and so many interfaces, with a line each.
-fn interfaces(alloc: Global, count: u32) -> Result<String, AllocError> {
+pub(crate) fn interfaces(alloc: Global, count: u32) -> Result<String, AllocError> {
     let mut text = String::from_str(alloc, "area z none\ndevice r\n")?;
     for number in 0..count {
         text.push_str(format!(in alloc; "interface r e{number} z\n")?.as_str())?;

@@ -7,6 +7,7 @@ Each run has to end by itself within 30 seconds of the processor, with the statu
 its case says. It has the usual stack of 8 MiB, and 8 GiB of address space, so that it can't take the machine with it; it
 is killed after 300 seconds. A line says its seconds, the most memory that it took, its status and the bytes that it wrote.
 The last line counts the runs that weren't as they have to be. With WORD, only cases whose name has that word are run.
+All of them take most of an hour.
 """
 
 import os

@@ -7,6 +7,7 @@ Each run has to end by itself within 30 seconds of the processor, with the statu
 its case says. It has the usual stack of 8 MiB, and 8 GiB of address space, so that it can't take the machine with it; it
 is killed after 300 seconds. A line says its seconds, the most memory that it took, its status and the bytes that it wrote.
 The last line counts the runs that weren't as they have to be. With WORD, only cases whose name has that word are run.
+All of them take most of an hour.
 """
 
 import os
@@ -199,6 +200,39 @@ def wide():
         yield f'an address that is the other in {bits} bits, {2 * bits + 1} entries', {'net': NET, 'r.cfg': config}, ['check', 'net'], None
 
 
+def classes(count):
+    """So many lists of one entry, each at a slot of its own: a third on sources, on destinations, and on ports. A goal for tcp."""
+    entries = [lambda k: f'permit ip host {address(0x0a000000 + k)} any', lambda k: f'permit ip any host {address(0x0b000000 + k)}',
+               lambda k: f'permit tcp any any eq {1 + k}']
+    files, net, interfaces = {}, 'area hub none\narea a none\n', ''
+    for device in range(0, count, 8):
+        net += f'device d{device} config {device}\n'
+        files[str(device)] = ''
+        for k in range(device, min(count, device + 8)):
+            if k % 2 == 0:
+                interfaces += f'interface d{device} e{k} {"hub" if k % 4 else "a"}\n'
+            files[str(device)] += f'interface e{k - k % 2}\n ip access-group L{k} {"out" if k % 2 else "in"}\nip access-list extended L{k}\n'
+            files[str(device)] += f' {entries[k % 3](k)}\n'
+    return {'net': net + interfaces + 'goal a hub never tcp\n', **files}
+
+
+def free(count):
+    """A ring of so many areas, of which each slot is free, and a goal from each area to the one across."""
+    net = ''.join(f'area a{k} none\n' for k in range(count)) + ''.join(f'device d{k}\n' for k in range(count))
+    net += ''.join(f'interface d{k} e0 a{k}\ninterface d{k} e1 a{(k + 1) % count}\n' for k in range(count))
+    net += ''.join(f'free d{k} e{n} {way}\n' for k in range(count) for n in (0, 1) for way in ('in', 'out'))
+    return net + ''.join(f'goal a{k} a{(k + count // 2) % count} never and tcp dport {k}-{k + 40}\n' for k in range(count))
+
+
+def grown():
+    """Networks whose lists tell very many classes of packets apart, and with very many free slots."""
+    for count in (300, 600, 1200, 2000):
+        files = classes(count)
+        yield f'{count} lists on sources, destinations and ports', files, ['check', 'net'], None
+    for count in (32, 64, 128, 256):
+        yield f'{4 * count} free slots and {count} goals', {'net': free(count)}, ['synth', 'net'], None
+
+
 def limits():
     resource.setrlimit(resource.RLIMIT_STACK, (STACK, STACK))
     resource.setrlimit(resource.RLIMIT_AS, (SPACE, SPACE))
@@ -247,7 +281,7 @@ def main():
     program = os.path.abspath(sys.argv[1])
     word = sys.argv[2] if len(sys.argv) > 2 else ''
     runs = wrongs = 0
-    for cases in (filled, nested, prefixes, shared, names, wide):
+    for cases in (filled, nested, prefixes, shared, names, wide, grown):
         for name, files, words, expected in cases():
             if word not in name:
                 continue

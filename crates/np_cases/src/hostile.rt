@@ -179,6 +179,23 @@ fn as_many_rules_as_there_may_be(rt: HostRuntime) -> Result<(), Fail> {
 }
 
 #[test]
+fn a_predicate_as_deep_as_may_be(rt: HostRuntime) -> Result<(), Fail> {
+    let nots = "not ".repeat(rt.alloc(), 63)?;
+    let net = format!(in rt.alloc();
+        "area out 0.0.0.0/0\narea lan 10.0.0.0/8\ndevice r\ninterface r e0 out\ninterface r e1 lan\ngoal out lan never {nots}any\n"
+    )?;
+    expect_by_diagrams(
+        &rt,
+        rt.alloc(),
+        "63 times not",
+        &["check", "net"],
+        &[("net", net.as_str())],
+        "goal 1 holds\nholds\n",
+        0,
+    )
+}
+
+#[test]
 fn a_configuration_that_is_no_text(rt: HostRuntime) -> Result<(), Fail> {
     let net = filtered(rt.alloc(), "never tcp")?;
     let long = vec![in rt.alloc(); b'\xff'; 16_777_216]?;

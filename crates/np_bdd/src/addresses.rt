@@ -17,9 +17,11 @@ impl Nodes {
     ghost use Rattle.np_bdd.specs.Fields.{TestsField, IsField};
 
     /// The node that tests whether one of the patterns has the address of 32 bits from the first one on,
-    /// and goes on at the tail. It makes the nodes of the result alone. Of prefixes each is looked at
-    /// once for each of its bits at most; a pattern counts as two from each wild bit on that stands
-    /// before a fixed one.
+    /// and goes on at the tail. It makes the nodes of the result and no others.
+    ///
+    /// A prefix is looked at once for each of its bits at most. A pattern with wild bits before a fixed one
+    /// goes both ways at each of them, so that of several such patterns the work may double with each of
+    /// these bits.
     #[tactic(auto, using(crate::proofs::PatternListLemmas::any_field_tests))]
     pub(crate) fn patterns(
         &mut self,
@@ -66,7 +68,7 @@ impl Nodes {
         }
         let zeros = side(alloc, width - 1, false, &patterns)?;
         let ones = side(alloc, width - 1, true, &patterns)?;
-        // Not needed any more, so that all lists at hand together are little longer than the first.
+        // So the lists at hand together are at most twice as long as the first one.
         drop(patterns);
         let low = self.patterns_below(alloc, first, width - 1, zeros, tail)?;
         let high = self.patterns_below(alloc, first, width - 1, ones, tail)?;

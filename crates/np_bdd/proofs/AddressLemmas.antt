@@ -59,7 +59,7 @@ module _ (p : Ternary) (k : ℕ) where
       next = omega arith
 
   -- a wild bit
-  wild_same : has_bit p.wild k ≡ true → (n : ℕ) → pattern_below p (k + 1) n ≡ pattern_below p k (n % 2 ^ k)
+  pub wild_same : has_bit p.wild k ≡ true → (n : ℕ) → pattern_below p (k + 1) n ≡ pattern_below p k (n % 2 ^ k)
   wild_same wild n =
       one_more n
       ∙ ap (λ b. (b || same_flag (has_bit n k) (has_bit p.value k)) && pattern_below p k n) wild

@@ -2,9 +2,9 @@
 use Rattle.std.proofs.Common.{◌≡◌, ℕ, zero, suc, ◌+◌, ◌-◌, ◌*◌, ◌%◌, ◌<◌, ◌≤◌, ◌^◌, Bool, true, false, List, [], ◌∷◌, length, get_or, cond, bit_and, nat_eq, refl, sym, ◌∙◌, ap, arith}
 use Rattle.std.specs.Prelude.{◌&&◌, ◌||◌, ◌==◌}
 use Rattle.std.specs.Int.{bit_at}
-use Rattle.std.specs.List.{filter, list_any}
+use Rattle.std.specs.List.{filter, list_all, list_any}
 use Rattle.std.proofs.Math.Pow.{pow_mono}
-use Rattle.std.proofs.lemmas.Bool.{eqb-true}
+use Rattle.std.proofs.lemmas.Bool.{and_parts, eqb-true}
 use Rattle.std.proofs.lemmas.List.Folds.{list_any_at}
 use Rattle.std.proofs.lemmas.Nat.{and_mask}
 use Rattle.std.proofs.lemmas.Nat.Bits.{bit_at_ones}
@@ -22,8 +22,8 @@ use Rattle.np_bdd.specs.declared.views.View.{View}
 use Rattle.np_bdd.specs.Views.{bits_of_header, leads_to_yes}
 use Rattle.np_bdd.specs.Nodes.{KeepsNodes, StartsAt, Chooses}
 use Rattle.np_bdd.specs.Fields.{AreBitsOf, TestsField, HasHeaders, AlwaysAnswers, IsField, pattern_below, any_below, allows}
-use Rattle.np_bdd.proofs.AddressLemmas.{bit_above, bit_more, bit_less, agree_alike, none_before, one_more, pattern_whole}
-use Rattle.np_bdd.proofs.FieldLemmas.{bit_of_rest, split_field, field_kept, starts_kept, has_alike, has_field}
+use Rattle.np_bdd.proofs.AddressLemmas.{bit_above, bit_more, bit_less, agree_alike, none_before, one_more, pattern_whole, wild_same}
+use Rattle.np_bdd.proofs.FieldLemmas.{bit_of_rest, rest_bits, split_field, field_kept, starts_kept, has_alike, has_field}
 
 -- ---- the tests
 
@@ -117,6 +117,34 @@ every_number first width ps views tail all starts = record {
   starts = record { there = starts.there; from = omega (arith, starts.from) };
   tests = λ bits n are. ap (λ b. b && leads_to_yes views bits tail) (sym (all n));
 }
+
+-- a bit that is wild in each of the patterns says nothing
+wild_in_each : (k : ℕ) (ps : List Ternary) → list_all (λ p. has_bit p.wild k) ps ≡ true → (n : ℕ) → any_below ps (k + 1) n ≡ any_below ps k (n % 2 ^ k)
+wild_in_each k [] all n = refl
+wild_in_each k (p ∷ ps) all n =
+    let both = and_parts (has_bit p.wild k) (list_all (λ q. has_bit q.wild k) ps) all in
+    λ i. wild_same p k both.0 n i || wild_in_each k ps both.1 n i
+
+-- so it is passed over
+passed : (at k : ℕ) (ps : List Ternary) (views : List View) (tail x : ℕ) → list_all (λ p. has_bit p.wild k) ps ≡ true → IsField (any_below ps k) (1 + at) k views tail x
+    → IsField (any_below ps (k + 1)) at (k + 1) views tail x
+passed at k ps views tail x all field = record {
+  starts = record { there = field.starts.there; from = omega (arith, field.starts.from) };
+  tests = λ bits n are.
+      field.tests bits (n % 2 ^ k) (rest_bits bits at k n (rw next at are))
+      ∙ ap (λ b. b && leads_to_yes views bits tail) (sym (wild_in_each k ps all n));
+}
+  where
+    next : k + 1 ≡ 1 + k
+    next = omega arith
+
+-- the same with the numbers as the code has them
+pub passed_over : (first width k : ℕ) (ps : List Ternary) (views : List View) (tail x : ℕ) → width ≡ k + 1 → width ≤ 32 → list_all (λ p. has_bit p.wild k) ps ≡ true
+    → IsField (any_below ps k) (first + (32 - k)) k views tail x → IsField (any_below ps width) (first + (32 - width)) width views tail x
+passed_over first width k ps views tail x e narrow all field = rw e (passed (first + (32 - (k + 1))) k ps views tail x all (rw same at field))
+  where
+    same : first + (32 - k) ≡ 1 + (first + (32 - (k + 1)))
+    same = omega arith
 
 -- a branch tests bits after this one alone
 pub side_starts : (first width : ℕ) (old new : List View) (x : ℕ) → 0 < width → width ≤ 32 → KeepsNodes old new → StartsAt old (first + (32 - (width - 1))) x

@@ -1,7 +1,7 @@
 //! The nodes that test an address against many patterns.
 
 ghost use Rattle.std.specs.Prelude.{◌≡◌, true, false, ◌+◌, ◌-◌, ◌<◌, ◌≤◌, ℕ, length, IfOk};
-ghost use Rattle.std.specs.List.{filter};
+ghost use Rattle.std.specs.List.{filter, list_all};
 ghost use Rattle.np_space.specs.Bit.{has_bit};
 ghost use Rattle.np_space.specs.Patterns.{any_pattern_has};
 ghost use Rattle.np_bdd.specs.Fields.{any_below, allows};
@@ -17,9 +17,11 @@ impl Nodes {
     ghost use Rattle.np_bdd.specs.Fields.{TestsField, IsField};
 
     /// The node that tests whether one of the patterns has the address of 32 bits from the first one on,
-    /// and goes on at the tail. It makes the nodes of the result alone. Of prefixes each is looked at
-    /// once for each of its bits at most; a pattern counts as two from each wild bit on that stands
-    /// before a fixed one.
+    /// and goes on at the tail. It makes the nodes of the result and no others.
+    ///
+    /// A prefix is looked at once for each of its bits at most. A bit that is wild in every pattern that is
+    /// left is passed over; one that is wild in some, before a fixed bit, sends these both ways, so that the
+    /// work may double with each such bit.
     #[tactic(auto, using(crate::proofs::PatternListLemmas::any_field_tests))]
     pub(crate) fn patterns(
         &mut self,
@@ -64,9 +66,12 @@ impl Nodes {
         if is_whole(&patterns, width) {
             return Ok(tail);
         }
+        if are_wild(&patterns, width - 1) {
+            return Ok(self.patterns_below(alloc, first, width - 1, patterns, tail)?);
+        }
         let zeros = side(alloc, width - 1, false, &patterns)?;
         let ones = side(alloc, width - 1, true, &patterns)?;
-        // Not needed any more, so that all lists at hand together are little longer than the first.
+        // So the lists at hand together are at most twice as long as the first one.
         drop(patterns);
         let low = self.patterns_below(alloc, first, width - 1, zeros, tail)?;
         let high = self.patterns_below(alloc, first, width - 1, ones, tail)?;
@@ -97,6 +102,14 @@ fn is_whole(patterns: &[Ternary], width: u8) -> bool
         }
     }
     false
+}
+
+// Whether the bit is wild in each of the patterns.
+fn are_wild(patterns: &[Ternary], bit: u8) -> bool
+    requires { bit < 32 }
+    ensures { result ≡ list_all (λ p. has_bit p.wild bit) patterns.now }
+{
+    patterns.iter().all(|pattern| has_bit(pattern.wild, bit))
 }
 
 // Whether the pattern has numbers with this bit.

@@ -1,11 +1,10 @@
 -- Blocks that test a field or two of valid headers.
 use Rattle.std.proofs.Common.{◌≡◌, ℕ, ◌≤◌, Bool, true, false, refl, ◌∙◌, arith, nat_le}
-use Rattle.std.specs.Prelude.{◌&&◌, ◌==◌}
+use Rattle.std.specs.Prelude.{◌&&◌}
 use Rattle.std.proofs.lemmas.Bool.{lt-ltb}
 use Rattle.std.proofs.lemmas.Bool.Decides.{nat_tests}
 use Rattle.np_space.specs.Block.{block_has, everything, fields_have}
 use Rattle.np_space.specs.declared.blocks.Block.{Block}
-use Rattle.np_space.specs.declared.patterns.Ternary.{Ternary}
 use Rattle.np_space.specs.declared.spans.Span.{Span}
 use Rattle.np_space.specs.Flag.{flag_number}
 use Rattle.np_space.specs.Header.{is_valid_header, HasWidths}
@@ -52,18 +51,6 @@ module _ (h : Header) (valid : is_valid_header h ≡ true) where
   any_dscp = up_to 63 h.dscp (omega arith) (omega (arith, w.dscp))
 
   -- so with one field or two of its own a block tests these alone
-  pub src_alone : (src : Ternary) → fields_have src everything.dst everything.proto everything.a everything.b everything.est everything.dscp h ≡ ternary_has src h.src
-  src_alone src = (λ i. ternary_has src h.src && any_dst i && any_proto i && any_a i && any_b i && any_est i && any_dscp i) ∙ by (ternary_has src h.src) where
-    by : (t : Bool) → (t && true && true && true && true && true && true) ≡ t
-    by false = refl
-    by true = refl
-
-  pub dst_alone : (dst : Ternary) → fields_have everything.src dst everything.proto everything.a everything.b everything.est everything.dscp h ≡ ternary_has dst h.dst
-  dst_alone dst = (λ i. any_src i && ternary_has dst h.dst && any_proto i && any_a i && any_b i && any_est i && any_dscp i) ∙ by (ternary_has dst h.dst) where
-    by : (t : Bool) → (true && t && true && true && true && true && true) ≡ t
-    by false = refl
-    by true = refl
-
   pub proto_alone : (proto : Span) → fields_have everything.src everything.dst proto everything.a everything.b everything.est everything.dscp h ≡ span_has proto h.proto
   proto_alone proto = (λ i. any_src i && any_dst i && span_has proto h.proto && any_a i && any_b i && any_est i && any_dscp i) ∙ by (span_has proto h.proto) where
     by : (t : Bool) → (true && true && t && true && true && true && true) ≡ t

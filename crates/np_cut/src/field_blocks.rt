@@ -4,7 +4,6 @@ ghost use Rattle.std.specs.Prelude.{◌≡◌, ◌==◌, ◌&&◌, ◌≤◌, �
 ghost use Rattle.np_space.specs.Block.{block_has, fields_have};
 ghost use Rattle.np_space.specs.Flag.{flag_number};
 ghost use Rattle.np_space.specs.Span.{span_has};
-ghost use Rattle.np_space.specs.Ternary.{ternary_has};
 ghost use Rattle.np_space.specs.declared.headers.Header.{Header};
 ghost use Rattle.np_cut.specs.FieldTests.{TestsOnValid};
 
@@ -60,22 +59,6 @@ pub fn of_protocol(number: u8) -> Block
     let all = Block::everything();
     let proto = protocol(number);
     block_of(all.src, all.dst, proto, all.a, all.b, all.est, all.dscp)
-}
-
-/// The headers whose source is in the pattern.
-pub fn of_source(src: Ternary) -> Block
-    ensures { TestsOnValid result (λ h. ternary_has src h.src) }
-{
-    let all = Block::everything();
-    block_of(src, all.dst, all.proto, all.a, all.b, all.est, all.dscp)
-}
-
-/// The headers whose destination is in the pattern.
-pub fn of_destination(dst: Ternary) -> Block
-    ensures { TestsOnValid result (λ h. ternary_has dst h.dst) }
-{
-    let all = Block::everything();
-    block_of(all.src, dst, all.proto, all.a, all.b, all.est, all.dscp)
 }
 
 /// The headers of a protocol with a source port, or a type, in the span.

@@ -14,4 +14,4 @@ pub use applied::{Applied, lets};
 pub use applying::apply;
 pub use filtering::{filter_cuts, with_preds};
 pub use list_regions::{entry_region, list_region};
-pub use pred_regions::pred_region;
+pub use pred_regions::{pred_region, source_region};

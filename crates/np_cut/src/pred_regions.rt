@@ -11,12 +11,11 @@ ghost use Rattle.np_pred.specs.Meaning.{has_ports, pred_holds};
 ghost use Rattle.np_region.specs.Keeping.{KeepsRegions};
 
 use crate::field_blocks::{
-    of_code_points, of_destination, of_established, of_first_number, of_protocol, of_second_number,
-    of_source,
+    of_code_points, of_established, of_first_number, of_protocol, of_second_number,
 };
 use np_pred::{DscpSpan, Pred};
 use np_region::Regions;
-use np_space::{Block, Span, Ternary};
+use np_space::{AddressField, Block, Span, Ternary};
 use std::alloc::{AllocError, Global};
 
 // The valid headers that one of two blocks has.
@@ -30,32 +29,23 @@ fn of_two<S: Regions>(store: &mut S, first: &Block, second: &Block) -> Result<S:
     store.join(&x, &y)
 }
 
-/// The valid headers whose source is in one of the patterns. Fails only for want of memory.
-pub(crate) fn sources<S: Regions>(store: &mut S, patterns: &[Ternary]) -> Result<S::R, AllocError>
+/// Exactly the valid headers whose source is in one of the patterns, as those of an area's sources. The
+/// patterns may stand in any order, overlap and be repeated. Fails only for want of memory.
+pub fn source_region<S: Regions>(store: &mut S, patterns: &[Ternary]) -> Result<S::R, AllocError>
     ensures kept { KeepsRegions S.fits S.has_header store.old store.new }
     ensures fits { IfOk result (λ x. S.fits store.new x) }
     ensures exact { IfOk result (λ x. (h : Header) → S.has_header store.new x h ≡ (is_valid_header h && any_pattern_has patterns.now h.src)) }
 {
-    let mut all = store.none();
-    for pattern in patterns {
-        let one = store.of_block(&of_source(*pattern))?;
-        all = store.join(&all, &one)?;
-    }
-    Ok(all)
+    store.of_addresses(AddressField::Src, patterns)
 }
 
-// The valid headers whose destination is in one of the patterns.
-fn destinations<S: Regions>(store: &mut S, patterns: &[Ternary]) -> Result<S::R, AllocError>
+// The same for destinations.
+fn destination_region<S: Regions>(store: &mut S, patterns: &[Ternary]) -> Result<S::R, AllocError>
     ensures kept { KeepsRegions S.fits S.has_header store.old store.new }
     ensures fits { IfOk result (λ x. S.fits store.new x) }
     ensures exact { IfOk result (λ x. (h : Header) → S.has_header store.new x h ≡ (is_valid_header h && any_pattern_has patterns.now h.dst)) }
 {
-    let mut all = store.none();
-    for pattern in patterns {
-        let one = store.of_block(&of_destination(*pattern))?;
-        all = store.join(&all, &one)?;
-    }
-    Ok(all)
+    store.of_addresses(AddressField::Dst, patterns)
 }
 
 // The valid headers of TCP and UDP with a source port in the span.
@@ -132,8 +122,8 @@ pub fn pred_region<S: Regions>(alloc: Global, store: &mut S, p: &Pred) -> Result
         Pred::Any => store.whole(),
         Pred::Nothing => Ok(store.none()),
         Pred::Proto(number) => store.of_block(&of_protocol(*number)),
-        Pred::Src(patterns) => sources(store, patterns.as_slice()),
-        Pred::Dst(patterns) => destinations(store, patterns.as_slice()),
+        Pred::Src(patterns) => source_region(store, patterns.as_slice()),
+        Pred::Dst(patterns) => destination_region(store, patterns.as_slice()),
         Pred::SrcPort(ports) => source_ports(store, *ports),
         Pred::DstPort(ports) => destination_ports(store, *ports),
         Pred::IcmpType(number) => icmp_type(store, *number),

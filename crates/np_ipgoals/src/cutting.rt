@@ -7,12 +7,11 @@ ghost use Rattle.np_region.specs.Keeping.{KeepsRegions, EachFits, tests_of};
 ghost use Rattle.np_ipsec.specs.Goals.{goal_pred};
 ghost use Rattle.np_ipgoals.specs.Cuts.{asked, ipsec_tests, source_test, table_preds};
 
-use np_cut::{pred_region, with_preds};
+use np_cut::{source_region, with_preds};
 use np_ipsec::goal_pred;
 use np_net::{Area, InRule, IpGoal, Match, Network, OutRule, Table};
 use np_pred::Pred;
 use np_region::Regions;
-use sqlite_items::Items;
 use std::alloc::{AllocError, Global};
 
 /// Adds the predicate that a match asks of a plain header, if it does.
@@ -86,19 +85,8 @@ fn all_preds(alloc: Global, net: &Network) -> Result<Vec<&Pred>, AllocError>
     Ok(preds)
 }
 
-/// The valid headers with a source in the area. Takes memory for a copy of its sources.
-fn source_region<S: Regions>(alloc: Global, store: &mut S, area: &Area) -> Result<S::R, AllocError>
-    ensures kept { KeepsRegions S.fits S.has_header store.old store.new }
-    ensures fits { IfOk result (λ x. S.fits store.new x) }
-    ensures exact { IfOk result (λ x. (h : Header) → S.has_header store.new x h ≡ source_test area.now h) }
-{
-    let sources = Items::from_slice(alloc, area.sources.as_slice())?;
-    pred_region(alloc, store, &Pred::Src(sources))
-}
-
 /// Other cuts, and after them the regions of areas' sources, one for each area.
 fn with_sources<S: Regions>(
-    alloc: Global,
     store: &mut S,
     before: Vec<S::R>,
     areas: &[Area],
@@ -110,7 +98,7 @@ fn with_sources<S: Regions>(
 {
     let mut cuts = before;
     for area in areas {
-        let cut = source_region(alloc, store, area)?;
+        let cut = source_region(store, area.sources.as_slice())?;
         cuts.push(cut)?;
     }
     Ok(cuts)
@@ -130,5 +118,5 @@ pub fn ipsec_cuts<S: Regions>(
     let none = Vec::new(alloc);
     let preds = all_preds(alloc, net)?;
     let cuts = with_preds(alloc, store, none, preds.as_slice())?;
-    with_sources(alloc, store, cuts, net.areas.as_slice())
+    with_sources(store, cuts, net.areas.as_slice())
 }

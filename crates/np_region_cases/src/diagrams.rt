@@ -2,7 +2,7 @@
 
 use np_bdd::{Diagrams, Node, View};
 use np_region::Regions;
-use np_space::{Block, Ternary};
+use np_space::{AddressField, Block, Ternary};
 use std::alloc::{AllocError, Global};
 use std::test::Fail;
 
@@ -65,6 +65,33 @@ fn ends(store: &mut Diagrams) -> Result<(View, Option<u8>, [Node; 2]), AllocErro
     let none = store.none();
     let whole = store.whole()?;
     Ok((store.view(&none), first_bit(store, whole), [none, whole]))
+}
+
+// How many nodes the region of these sources takes beside those that there are.
+fn nodes_made(store: &mut Diagrams, patterns: &[Ternary]) -> Result<usize, AllocError> {
+    let before = store.count();
+    store.of_addresses(AddressField::Src, patterns)?;
+    Ok(store.count().saturating_sub(before))
+}
+
+#[test]
+fn many_addresses_take_no_other_nodes(rt: HostRuntime) -> Result<(), Fail> {
+    let mut store = Diagrams::new(rt.alloc())?;
+    store.whole()?;
+    let ten = Ternary::prefix(0x0a00_0000, 8);
+    let low = Ternary::prefix(0x0a00_0000, 9);
+    let high = Ternary::prefix(0x0a80_0000, 9);
+    assert_eq!(rt; nodes_made(&mut store, &[])?, 0);
+    assert_eq!(rt; nodes_made(&mut store, &[Ternary::any(), ten])?, 0);
+    // a test for each fixed bit, and none where two prefixes make up one
+    assert_eq!(rt; nodes_made(&mut store, &[ten])?, 8);
+    assert_eq!(rt; nodes_made(&mut store, &[high, ten, low])?, 0);
+    assert_eq!(rt; nodes_made(&mut store, &[high, low])?, 0);
+    // the two hosts differ in the last bit alone
+    let first = Ternary::host(0xc000_0200);
+    let second = Ternary::host(0xc000_0201);
+    assert_eq!(rt; nodes_made(&mut store, &[second, first])?, 31);
+    Ok(())
 }
 
 #[test]

@@ -19,6 +19,8 @@ fn halved(sources: &[AreaId]) -> (&[AreaId], &[AreaId])
     ensures whole { sources.now ≡ result.0.now ++ result.1.now }
     ensures first { length result.0.now ≡ length sources.now - length sources.now / 2 }
     ensures second { length result.1.now ≡ length sources.now / 2 }
+    ensures areas_first { (count : ℕ) → AreAreas count sources.now → AreAreas count result.0.now }
+    ensures areas_second { (count : ℕ) → AreAreas count sources.now → AreAreas count result.1.now }
 {
     sources.split_at(sources.len() - sources.len() / 2)
 }

@@ -1,5 +1,4 @@
 -- A network may be lent to threads.
-use denote.RattleType.{RattleType}
 use denote.Param.Send.{IsSync, recorded_sync, struct_sync, sendable}
 use denote.Builtin.{bool}
 use denote.Struct.Declared.{shape}

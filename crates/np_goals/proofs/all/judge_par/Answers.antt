@@ -2,7 +2,7 @@ use Rattle.std.proofs.lemmas.Result.{IfOk-weaker}
 use Rattle.np_goals.proofs.all.judge_par.Goals as goal
 
 pub judge_halves-requires-clause-areas : goal.judge_halves-requires-clause-areas
-judge_halves-requires-clause-areas g c = rw c.as_slice.ensures c.in_ok-sources.ensures.areas
+judge_halves-requires-clause-areas g c κs lives = rw c.as_slice.ensures c.in_ok-sources.ensures.areas
 
 pub placed-requires : goal.placed-requires
 placed-requires g c = (c.as_slice.result.now, c.in_ok-results.ensures, rw c.as_slice.ensures c.in_ok-sources.ensures.all)

@@ -1,5 +1,5 @@
 use denote.Param.Send.{param_send, arg_send, shr_send, shr_slice_send, struct_send, recorded_send, plain_send, plain_sync}
-use Rattle.std.proofs.Common.{◌≡◌, ◌++◌, rules}
+use Rattle.std.proofs.Common.{rules}
 use Rattle.std.proofs.Crossing.{send}
 use Rattle.std.proofs.lemmas.Result.{IfOk-at_ok}
 use Rattle.np_goals.specs.Sources.{AreJudged, BeginsIn}

@@ -1,11 +1,12 @@
 #!/usr/bin/env python3
 """Times `netpol atoms` and `netpol check` on networks whose lists tell many classes of packets apart.
 
-Usage: bench/atoms.py [PROGRAM]
+Usage: bench/atoms.py [PROGRAM [WORDS]]
 
-Each case is written into a folder of its own and run once for each command; the line says its lists, its atoms, the seconds
-and the most memory of each command. The default program is bin/netpol of this repository. Nothing here is a test: timings
-depend on the machine.
+Each case, or each one whose name has the words, is written into a folder of its own and run once for each command; the line
+says its lists, its atoms, the seconds and the most memory of each command. The default program is bin/netpol of this
+repository. Where `rt ci` has built crates/atom_bench, another line says how many nodes the diagrams of the regions have and
+how many places the partition. Nothing here is a test: timings depend on the machine.
 """
 
 import os
@@ -16,6 +17,7 @@ import tempfile
 import time
 
 HERE = os.path.dirname(os.path.abspath(__file__))
+SIZES = os.path.join(HERE, '..', 'crates', 'atom_bench', 'out', 'atom_bench')
 
 
 def network(areas, joins, lists, ways, goals):
@@ -105,11 +107,15 @@ def grid(sources, targets, ports, count):
     return lists
 
 
+def write(folder, net, configs):
+    for name, lines in [('net', net), *configs.items()]:
+        with open(os.path.join(folder, name), 'w') as file:
+            file.write('\n'.join(lines) + '\n')
+
+
 def run(program, command, net, configs):
     with tempfile.TemporaryDirectory() as folder:
-        for name, lines in [('net', net), *configs.items()]:
-            with open(os.path.join(folder, name), 'w') as file:
-                file.write('\n'.join(lines) + '\n')
+        write(folder, net, configs)
         with open(os.path.join(folder, 'out'), 'wb') as out:
             start = time.monotonic()
             child = subprocess.Popen([program, command, 'net'], cwd=folder, stdout=out)
@@ -119,6 +125,13 @@ def run(program, command, net, configs):
         with open(os.path.join(folder, 'out'), 'rb') as out:
             atoms = next((text.split()[1].decode() for text in out if text.startswith(b'atoms ')), '?')
     return f'{seconds:.2f} s, {usage.ru_maxrss / 1024:.0f} MB, status {child.returncode}', atoms
+
+
+def sizes(net, configs):
+    """The nodes and the places."""
+    with tempfile.TemporaryDirectory() as folder:
+        write(folder, net, configs)
+        return subprocess.run([SIZES, 'net'], cwd=folder, capture_output=True, text=True, check=True).stdout.strip()
 
 
 # The text of its atoms would have 220 MB, so it is checked alone.
@@ -150,6 +163,8 @@ def main():
             print(f'  atoms: {atoms}, {figures}', flush=True)
         figures, _ = run(program, 'check', net, configs)
         print(f'  check: {figures}', flush=True)
+        if os.path.exists(SIZES):
+            print(f'  {sizes(net, configs)}', flush=True)
 
 
 if __name__ == '__main__':

@@ -4,10 +4,9 @@ use denote.Builtin.{bool}
 use denote.Struct.Declared.{shape}
 use Rattle.sqlite_items.proofs.items.Items.TheSendSync as items
 use Rattle.sqlite_items.proofs.boxed.Boxed.TheSendSync as boxed
-use Rattle.np_space.specs.contracts.patterns.Ternary as ternary
-use Rattle.np_space.proofs.patterns.Ternary.TheSendSync as ternaries
 use Rattle.np_space.proofs.spans.Span.TheSendSync as spans
 use Rattle.np_pred.proofs.dscp.DscpSpan.TheSendSync as dscps
+use Rattle.np_pred.proofs.shared_addresses.Addresses.TheSendSync as addresses
 use Rattle.np_pred.specs.contracts.predicate.Pred as pred
 use Rattle.np_pred.proofs.predicate.Pred.TheLaws.TheKnot.{sync-Pred}
 use Rattle.np_net.proofs.filtering.Area.TheSendSync as areas
@@ -31,7 +30,7 @@ use Rattle.np_net.specs.contracts.network.Network as network
 use Rattle.np_net.specs.contracts.network.Network.TheInside as inside
 
 pred_sync : IsSync (pred.the_field).row
-pred_sync = sync-Pred (search sendable) (items.the_sync ternary.the_row ternaries.the_sync) spans.the_field_sync dscps.the_field_sync boxed.the_sync
+pred_sync = sync-Pred (search sendable) addresses.the_sync spans.the_field_sync dscps.the_field_sync boxed.the_sync
 
 goal_sync : IsSync goal.the_row
 goal_sync = search (sendable, pred_sync) depth 20

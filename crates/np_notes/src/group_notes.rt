@@ -8,18 +8,17 @@ ghost use Rattle.np_notes.specs.NameNotes as names;
 ghost use Rattle.np_notes.specs.Places as places;
 
 use crate::group_line::GroupLine;
-use crate::names::add_new;
+use crate::name_set::NameSet;
 use crate::note::{Note, add_note};
 use np_acl::Way;
 use np_acl_read::Declared;
-use np_net::Names;
 use std::alloc::{AllocError, Global};
 
 /// Interfaces and ways.
 #[derive(Drop)]
 pub struct Places {
-    pub inward: Names,
-    pub outward: Names,
+    pub inward: NameSet,
+    pub outward: NameSet,
 }
 
 impl Places {
@@ -29,8 +28,8 @@ impl Places {
         ensures outward { result.outward ≡ [] }
     {
         Places {
-            inward: Names::new(alloc),
-            outward: Names::new(alloc),
+            inward: NameSet::new(alloc),
+            outward: NameSet::new(alloc),
         }
     }
 
@@ -40,8 +39,8 @@ impl Places {
         ensures added { OnOk result (self.new ≡ places.with_place self.old group.now) }
     {
         match group.way {
-            Way::Inward => add_new(alloc, &mut self.inward, &group.interface),
-            Way::Outward => add_new(alloc, &mut self.outward, &group.interface),
+            Way::Inward => self.inward.add(alloc, &group.interface),
+            Way::Outward => self.outward.add(alloc, &group.interface),
         }
     }
 }
@@ -100,13 +99,13 @@ fn list_note(
 /// The note of a line that applies a list.
 fn group_note(
     alloc: Global,
-    known: &Names,
+    known: &NameSet,
     declared: &Declared,
     group: &GroupLine,
 ) -> Result<Option<Note>, AllocError>
     ensures { IfOk result (λ note. note ≡ names.group_note known.now declared.now.lists group.now) }
 {
-    if known.has(alloc, group.interface.bytes())? {
+    if known.has(&group.interface) {
         list_note(alloc, declared, group)
     } else {
         Ok(Some(Note::UnknownInterface {
@@ -120,7 +119,7 @@ fn group_note(
 fn add_notes(
     alloc: Global,
     notes: &mut Vec<Note>,
-    known: &Names,
+    known: &NameSet,
     declared: &Declared,
     groups: &mut Vec<GroupLine>,
 ) -> Result<(), AllocError>
@@ -137,7 +136,7 @@ fn add_notes(
 pub fn add_group_notes(
     alloc: Global,
     notes: &mut Vec<Note>,
-    known: &Names,
+    known: &NameSet,
     declared: &Declared,
     groups: &mut Vec<GroupLine>,
 ) -> Result<(), AllocError>

@@ -9,6 +9,7 @@ pub mod laws;
 mod line_notes;
 mod line_shape;
 mod missing;
+mod name_set;
 mod names;
 mod note;
 mod noting;

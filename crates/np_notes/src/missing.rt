@@ -5,21 +5,22 @@ ghost use Rattle.std.specs.List.{filter_map};
 ghost use Rattle.std.specs.Option.{option_to_list};
 ghost use Rattle.np_notes.specs.NameNotes as names;
 
+use crate::name_set::NameSet;
 use crate::note::Note;
-use np_net::{DevId, Interface, Names};
+use np_net::{DevId, Interface};
 use std::alloc::{AllocError, Global};
 
 /// Adds the note of an interface, where it is the device's and none of these names is its.
 fn add_if_missing(
     alloc: Global,
     notes: &mut Vec<Note>,
-    named: &Names,
+    named: &NameSet,
     device: DevId,
     interface: &Interface,
 ) -> Result<(), AllocError>
     ensures { OnOk result (notes.new.items ≡ notes.old.items ++ names.missing_notes (option_to_list (names.name_at_device device interface.now)) named.now) }
 {
-    if interface.device != device || named.has(alloc, interface.name.bytes())? {
+    if interface.device != device || named.has(&interface.name) {
         return Ok(());
     }
     notes.push(Note::NoInterface {
@@ -34,7 +35,7 @@ fn add_if_missing(
 pub fn add_missing(
     alloc: Global,
     notes: &mut Vec<Note>,
-    named: &Names,
+    named: &NameSet,
     device: DevId,
     interfaces: &[Interface],
 ) -> Result<(), AllocError>

@@ -13,11 +13,10 @@ use crate::context::Context;
 use crate::group_line::GroupLine;
 use crate::line_notes::line_note;
 use crate::line_shape::line_shape;
-use crate::names::add_name;
+use crate::name_set::NameSet;
 use crate::note::{Note, add_note};
 use np_acl_read::{Declared, Section, Statement, line_statement};
 use np_lines::LineError;
-use np_net::Names;
 use np_text::lines;
 use std::alloc::{AllocError, Global};
 
@@ -28,7 +27,7 @@ pub struct Findings {
     /// The notes of the lines.
     pub notes: Vec<Note>,
     /// The interfaces whose sections the lines open.
-    pub named: Names,
+    pub named: NameSet,
     /// The lines that apply lists.
     pub groups: Vec<GroupLine>,
 }
@@ -48,7 +47,7 @@ fn no_findings(alloc: Global) -> Findings
     Findings {
         context: Context::new(),
         notes: Vec::new(alloc),
-        named: Names::new(alloc),
+        named: NameSet::new(alloc),
         groups: Vec::new(alloc),
     }
 }
@@ -106,13 +105,16 @@ fn add_group(
 /// Adds the interface whose section a line opens, where it opens one.
 fn add_interface(
     alloc: Global,
-    named: &mut Names,
+    named: &mut NameSet,
     said: &Option<Statement>,
 ) -> Result<(), AllocError>
     ensures { OnOk result (named.new ≡ with_each named.old (option_to_list (names.interface_in said.now))) }
 {
     match said {
-        Some(Statement::Interface(name)) => add_name(alloc, named, name),
+        Some(Statement::Interface(name)) => {
+            named.add(alloc, name)?;
+            Ok(())
+        }
         _ => Ok(()),
     }
 }

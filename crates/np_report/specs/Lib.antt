@@ -6,3 +6,4 @@ pub mod Summary
 pub mod Synthesis
 pub mod Runs
 pub mod Drops
+pub mod Notes

@@ -4,3 +4,4 @@ mod ConfigLaws
 mod NetWords
 mod NetMade
 mod NetLaws
+mod ReadingLaws

@@ -12,7 +12,11 @@ mod check;
 #[cfg(test)]
 mod cuts;
 #[cfg(test)]
+mod generated;
+#[cfg(test)]
 mod ipsec;
+#[cfg(test)]
+mod judging;
 #[cfg(test)]
 mod networks;
 #[cfg(test)]

@@ -12,6 +12,8 @@ import subprocess
 import sys
 import tempfile
 
+from generated import report
+
 TOP = os.path.join(os.path.dirname(os.path.abspath(__file__)), '..')
 
 # Two areas and a device without filters.
@@ -38,6 +40,8 @@ RUNS = [
     ('all goals hold', {'net': SHUT, 'r.cfg': DENY}, ['check', 'net'], 0, 'goal 1 holds\nholds\n'),
     ('a goal is violated', {'net': OPEN}, ['check', 'net'], 1,
      'goal 1 violated 0.0.0.0 0.0.0.0 6 0 0 0\nhop r e0 e1\nfails\n'),
+    ('a goal that seven workers judge', {'net': OPEN}, ['check', 'net', '7'], 1,
+     'goal 1 violated 0.0.0.0 0.0.0.0 6 0 0 0\nhop r e0 e1\nfails\n'),
     ('a line that is no list\'s', {'net': SHUT, 'r.cfg': DENY + 'hostname r\n'}, ['check', 'net'], 0, 'goal 1 holds\nholds\n'),
     ('atoms of a list and a goal', {'net': SHUT, 'r.cfg': DENY}, ['atoms', 'net'], 0, ATOMS),
     ('a posture', {'net': SHUT + 'free r e1 out\n', 'r.cfg': DENY}, ['synth', 'net'], 0,
@@ -52,6 +56,8 @@ RUNS = [
     ('atoms of nothing', {'net': ''}, ['atoms', 'net'], 0, 'cuts 0\natoms 1\natom 1 0.0.0.0 0.0.0.0 0 0 0 0 -\n'),
     ('no words', {}, [], 2, 'usage\n'),
     ('a word too many', {'net': OPEN}, ['show', 'net', 'net'], 2, 'usage\n'),
+    ('no worker', {'net': OPEN}, ['check', 'net', '0'], 2, 'usage\n'),
+    ('a seed past the greatest', {}, ['gen', '4294967296'], 2, 'usage\n'),
     ('a command that there is none of', {'net': OPEN}, ['--help'], 2, 'usage\n'),
     ('a refused line of a network', {'net': OPEN + 'color red\n'}, ['show', 'net'], 3, 'refused net line 7 UnknownStatement\n'),
     ('a refused line of a configuration', {'net': SHUT, 'r.cfg': DENY + 'no access-list 100\n'}, ['check', 'net'], 3,
@@ -145,6 +151,13 @@ def at_size(program):
         yield case, run(program, files, words) == (status, text.encode())
 
 
+def generated(program):
+    """Generated networks, whose goals are all violated for these seeds, by several numbers of workers."""
+    for seed in (0, 1, 2, 4294967295):
+        for workers in ([], ['7'], ['64']):
+            yield f'the network of seed {seed}', run(program, {}, ['gen', str(seed), *workers]) == (1, report(seed).encode())
+
+
 def strange_streams(program):
     """Runs whose words aren't text, and whose output can't be written."""
     files = {'net': OPEN}
@@ -173,7 +186,7 @@ def examples(program):
 def main():
     program = os.path.abspath(sys.argv[1])
     passed = failed = 0
-    for runs in (table, at_size, strange_streams, examples):
+    for runs in (table, at_size, generated, strange_streams, examples):
         for case, good in runs(program):
             if good:
                 passed += 1

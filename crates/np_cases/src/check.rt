@@ -1,11 +1,11 @@
-//! `check NET`.
+//! `check NET` and `check NET WORKERS`.
 
 use crate::given::shelf;
 use crate::networks::{
     AROUND, BRANCH, BRANCH_CONFIG, OPEN, RING, SHUT, SIDE_BY_SIDE, TCP_DENIED, crossed, filtered,
     ladder, protocols,
 };
-use crate::runs::{expect, expect_between, expect_in, expect_report, status};
+use crate::runs::{expect, expect_checked, expect_checked_between, expect_in, status};
 use np_atomizer::Atomizer;
 use np_bdd::Diagrams;
 use np_outside::MemSink;
@@ -178,15 +178,7 @@ const REPORTS: [(&str, &str, &str, &str, u8); 11] = [
 #[test]
 fn goals_that_hold(rt: HostRuntime) -> Result<(), Fail> {
     for (goal, lines) in HOLDING {
-        expect_between(
-            &rt,
-            rt.alloc(),
-            "check",
-            goal,
-            lines,
-            "goal 1 holds\nholds\n",
-            0,
-        )?;
+        expect_checked_between(&rt, rt.alloc(), goal, lines, "goal 1 holds\nholds\n", 0)?;
     }
     Ok(())
 }
@@ -200,7 +192,7 @@ fn expect_violated<R: Threads + Sync + Abort>(
     header: &str,
 ) -> Result<(), Fail> {
     let text = format!(in alloc; "goal 1 violated {header}\nhop r e0 e1\nfails\n")?;
-    expect_between(rt, alloc, "check", goal, lines, text.as_str(), 1)
+    expect_checked_between(rt, alloc, goal, lines, text.as_str(), 1)
 }
 
 #[test]
@@ -214,7 +206,7 @@ fn goals_that_are_violated(rt: HostRuntime) -> Result<(), Fail> {
 #[test]
 fn paths_through_networks(rt: HostRuntime) -> Result<(), Fail> {
     for (net, file, config, text, number) in REPORTS {
-        expect_report(&rt, rt.alloc(), "check", net, file, config, text, number)?;
+        expect_checked(&rt, rt.alloc(), net, file, config, text, number)?;
     }
     Ok(())
 }
@@ -228,16 +220,7 @@ fn expect_of_ladder<R: Threads + Sync + Abort>(
     number: u8,
 ) -> Result<(), Fail> {
     let net = ladder(alloc)?;
-    expect_report(
-        rt,
-        alloc,
-        "check",
-        net.as_str(),
-        "half.cfg",
-        config,
-        text,
-        number,
-    )
+    expect_checked(rt, alloc, net.as_str(), "half.cfg", config, text, number)
 }
 
 #[test]
@@ -268,26 +251,16 @@ fn all_violated(alloc: Global) -> Result<String, AllocError> {
 fn many_goals(rt: HostRuntime) -> Result<(), Fail> {
     let net = protocols(rt.alloc())?;
     let text = all_violated(rt.alloc())?;
-    expect_report(
-        &rt,
-        rt.alloc(),
-        "check",
-        net.as_str(),
-        "r.cfg",
-        "",
-        text.as_str(),
-        1,
-    )
+    expect_checked(&rt, rt.alloc(), net.as_str(), "r.cfg", "", text.as_str(), 1)
 }
 
 #[test]
 fn a_deep_predicate(rt: HostRuntime) -> Result<(), Fail> {
     let nots = "not ".repeat(rt.alloc(), 63)?;
     let goal = format!(in rt.alloc(); "never {nots}any")?;
-    expect_between(
+    expect_checked_between(
         &rt,
         rt.alloc(),
-        "check",
         goal.as_str(),
         "",
         "goal 1 holds\nholds\n",
@@ -324,17 +297,24 @@ fn many_runs_in_one_store(rt: HostRuntime) -> Result<(), Fail> {
 }
 
 /// Words that fit no command, or name a file that isn't there.
-const OTHER_WORDS: [(&str, &[&str], &str, u8); 7] = [
+const OTHER_WORDS: [(&str, &[&str], &str, u8); 14] = [
     ("no words", &[], "usage\n", 2),
     ("no file", &["check"], "usage\n", 2),
-    ("a word too many", &["check", "net", "0"], "usage\n", 2),
+    ("no worker", &["check", "net", "0"], "usage\n", 2),
+    ("too many workers", &["check", "net", "65"], "usage\n", 2),
+    ("a word for workers", &["check", "net", "one"], "usage\n", 2),
+    ("a word too many", &["check", "net", "1", "1"], "usage\n", 2),
+    ("workers for atoms", &["atoms", "net", "1"], "usage\n", 2),
+    ("no seed", &["gen"], "usage\n", 2),
     (
-        "another word too many",
-        &["check", "net", "65"],
+        "a seed past the greatest",
+        &["gen", "4294967296"],
         "usage\n",
         2,
     ),
-    ("no command", &["gen", "4294967296"], "usage\n", 2),
+    ("a word for a seed", &["gen", "net"], "usage\n", 2),
+    ("no worker for a seed", &["gen", "1", "0"], "usage\n", 2),
+    ("no command", &["report", "net"], "usage\n", 2),
     ("a missing file", &["check", "missing"], "", 4),
     ("a missing configuration", &["check", "between"], "", 4),
 ];

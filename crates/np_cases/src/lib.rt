@@ -14,9 +14,13 @@ mod cuts;
 #[cfg(test)]
 mod failing;
 #[cfg(test)]
+mod generated;
+#[cfg(test)]
 mod hostile;
 #[cfg(test)]
 mod ipsec;
+#[cfg(test)]
+mod judging;
 #[cfg(test)]
 mod networks;
 #[cfg(test)]

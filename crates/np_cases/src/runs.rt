@@ -3,6 +3,7 @@
 use crate::given::{shelf, words};
 use crate::networks::{applied, filtered};
 use np_atomizer::Atomizer;
+use np_goals::NoGate;
 use np_outside::{MemShelf, MemSink};
 use np_region::BlockLists;
 use np_top::{run, run_in};
@@ -12,7 +13,7 @@ use std::test::Fail;
 use std::thread::Threads;
 
 /// Room for the text of any case.
-const ROOM: usize = 65_536;
+pub(crate) const ROOM: usize = 65_536;
 
 /// The number of the status of a run of these words over a shelf and a sink.
 pub(crate) fn status<R: Threads + Sync>(
@@ -36,7 +37,7 @@ fn status_in<R: Threads + Sync, G: Atomizer>(
     sink: &mut MemSink,
 ) -> Result<u8, AllocError> {
     let words = words(alloc, line)?;
-    Ok(run_in(rt, alloc, store, words.as_slice(), shelf, sink).number())
+    Ok(run_in(rt, alloc, store, words.as_slice(), shelf, sink, &NoGate).number())
 }
 
 /// Compares what a run gave with the text and the status that it has to give.
@@ -128,6 +129,43 @@ pub(crate) fn expect_report<R: Threads + Sync + Abort>(
 ) -> Result<(), Fail> {
     let files = [("net", net), (file, config)];
     expect(rt, alloc, net, &[command, "net"], &files, text, number)
+}
+
+/// Runs `check` over a network with a configuration in the file of this name: as it is, and by seven workers.
+pub(crate) fn expect_checked<R: Threads + Sync + Abort>(
+    rt: &R,
+    alloc: Global,
+    net: &str,
+    file: &str,
+    config: &str,
+    text: &str,
+    number: u8,
+) -> Result<(), Fail> {
+    let files = [("net", net), (file, config)];
+    expect(rt, alloc, net, &["check", "net"], &files, text, number)?;
+    expect(rt, alloc, net, &["check", "net", "7"], &files, text, number)
+}
+
+/// The same over two areas with this goal, and with these lines of the configuration of the device between them.
+pub(crate) fn expect_checked_between<R: Threads + Sync + Abort>(
+    rt: &R,
+    alloc: Global,
+    goal: &str,
+    lines: &str,
+    text: &str,
+    number: u8,
+) -> Result<(), Fail> {
+    let net = filtered(alloc, goal)?;
+    let config = applied(alloc, lines)?;
+    expect_checked(
+        rt,
+        alloc,
+        net.as_str(),
+        "r.cfg",
+        config.as_str(),
+        text,
+        number,
+    )
 }
 
 /// Runs a command over two areas with this goal, and with these lines of the configuration of the device between them.

@@ -1,6 +1,7 @@
 mod DrawnLaws
 mod EntryLaws
-mod ConfigLaws
+pub mod ConfigLaws
 mod NetWords
 mod NetMade
-mod NetLaws
+pub mod NetLaws
+mod ReadingLaws

@@ -6,20 +6,20 @@ use Rattle.np_top.specs.declared.status.Status.{Status}
 use Rattle.np_top.specs.declared.status.Status.TheVariants.{Holds, Fails, Usage, Refused, ReadFault, WriteFault, Memory}
 use Rattle.np_net.specs.Plan.{Plan}
 use Rattle.np_script.specs.Fitting.{Fits}
-use Rattle.np_top.specs.Commands.{Command, check, atoms, synth, ipsec, trace, show, command_of}
+use Rattle.np_top.specs.Commands.{Command, check, atoms, synth, ipsec, trace, show, gen, command_of}
 use Rattle.np_top.specs.Report.{usage_text, verdicts_status}
 use Rattle.np_goals.specs.declared.verdicts.Verdict.{Verdict}
 use Rattle.np_report.specs.Verdicts.{all_hold}
 use Rattle.np_load.specs.Inputs.{Inputs, Play, inputs_of, play_of}
 use Rattle.np_load.specs.Saying.{net_says}
-use Rattle.np_top.specs.Outcome.{IsAnswer, IsAnswerTo, IsCheckReportOn, IsAtomsReportOn, IsSynthesisReportOn, IsTraceReportOn, HasFiles, IsAccepted, AcceptsFiles, AreAccepted, IsOutcome, IsDefined, IsMaximalOn, IsMaximalFor, IsMaximalOutcome, IsTrajectoryOn, IsTrajectoryFor, IsTrajectoryOutcome, IsSafeOn, IsSafeFor, IsSafeOutcome, IsOneOutcome}
+use Rattle.np_top.specs.Outcome.{IsAnswer, IsAnswerTo, IsCheckReportOn, IsAtomsReportOn, IsSynthesisReportOn, IsTraceReportOn, HasFiles, ReadsFiles, AreOfFiles, IsAccepted, AcceptsFiles, AreAccepted, IsOutcome, IsDefined, IsMaximalOn, IsMaximalFor, IsMaximalOutcome, IsTrajectoryOn, IsTrajectoryFor, IsTrajectoryOutcome, IsSafeOn, IsSafeFor, IsSafeOutcome, IsOneOutcome}
 use Rattle.np_top.specs.Ipsec.{IsIpsecReport}
 use Rattle.np_top.specs.Show.{IsCanonical}
 use Rattle.np_top.specs.Status.{IsReport, IsSettled, IsUnlessFault}
 use Rattle.np_top.specs.Written.{Took, TookPrefix}
 use Rattle.np_top.proofs.Existing.{an_outcome}
 use Rattle.np_top.proofs.IpsecLaws.{one_ipsec_report, ipsec_reported, ipsec_safe}
-use Rattle.np_top.proofs.OneReport.{Same, one_check_report, one_atoms_report}
+use Rattle.np_top.proofs.OneReport.{Same, one_check_report, one_atoms_report, one_gen_report}
 use Rattle.np_top.proofs.SynthesisLaws.{one_synthesis_report, synthesis_reported, holds_is_maximal}
 use Rattle.np_top.proofs.TraceLaws.{one_trace_report, play_fits, trace_is_trajectory, trace_reported}
 
@@ -43,6 +43,7 @@ one_answer_to files (ipsec file) s t x y a b = one_answer IsIpsecReport one_ipse
 one_answer_to files (trace file script) s t x y a b =
     one_answer IsTraceReportOn (λ play s t x y a b. one_trace_report play.net play.script s t x y a b) (play_of files file script) s t x y a b
 one_answer_to files (show file) s t x y a b = one_answer IsCanonical one_canonical (net_says files file) s t x y a b
+one_answer_to files (gen seed) s t x y a b = one_gen_report seed s t x y a b
 
 -- two outcomes of the same words and files are the same text and status
 pub one_outcome : (words : List (List ℕ)) (files : Files) (s t : List ℕ) (x y : Status) → IsOutcome words files s x → IsOutcome words files t y → Same s x t y
@@ -64,6 +65,7 @@ has_files files (synth file) text status answer = defined_by IsSynthesisReportOn
 has_files files (ipsec file) text status answer = defined_by IsIpsecReport (net_says files file) text status answer
 has_files files (trace file script) text status answer = defined_by IsTraceReportOn (play_of files file script) text status answer
 has_files files (show file) text status answer = defined_by IsCanonical (net_says files file) text status answer
+has_files files (gen seed) text status answer = tt
 
 -- an outcome needs its files
 pub outcome_defined : (words : List (List ℕ)) (files : Files) (text : List ℕ) (status : Status) → IsOutcome words files text status → IsDefined words files
@@ -91,6 +93,10 @@ usage_outcome words files fits = rw (← fits) (refl, refl)
 pub answer_outcome : (words : List (List ℕ)) (files : Files) (command : Command) (text : List ℕ) (status : Status) → Some command ≡ command_of words →
     IsAnswerTo files command text status → IsOutcome words files text status
 answer_outcome words files command text status fits answer = rw (← fits) answer
+
+-- words are those of a command that reads a file, where their command does
+pub of_files : (words : List (List ℕ)) (command : Command) → Some command ≡ command_of words → ReadsFiles command → AreOfFiles words
+of_files words command fits reads = rw (← fits) reads
 
 -- a status is its own, unless a device or memory fails
 pub is_unless_fault : (status : Status) → IsUnlessFault status status
@@ -151,6 +157,7 @@ reported files (trace file script) text status accepted is =
     answer_reported IsTraceReportOn (λ play text status is. trace_reported play.net play.script text status is) (play_of files file script) text status accepted is
 reported files (show file) text status accepted is =
     answer_reported IsCanonical (λ net text status is. subst IsReport (sym is.1) tt) (net_says files file) text status accepted is
+reported files (gen seed) text status accepted is = subst IsReport (sym is.summary.status_is) (verdicts_reported is.summary.verdicts)
 
 accepted_there : {X : Type 0} (says : Option (Result X (List ℕ))) → IsAccepted says → IsSome says
 accepted_there None accepted = absurd accepted
@@ -164,6 +171,7 @@ accepted_files files (synth file) accepted = accepted_there (inputs_of files fil
 accepted_files files (ipsec file) accepted = accepted_there (net_says files file) accepted
 accepted_files files (trace file script) accepted = accepted_there (play_of files file script) accepted
 accepted_files files (show file) accepted = accepted_there (net_says files file) accepted
+accepted_files files (gen seed) accepted = tt
 
 -- the outcome of a command whose files are accepted
 pub accepted_command : (words : List (List ℕ)) (files : Files) (command : Command) → Some command ≡ command_of words → AreAccepted words files → AcceptsFiles files command
@@ -205,6 +213,7 @@ maximal_for files (synth file) text answer = maximal_on (inputs_of files file) t
 maximal_for files (ipsec file) text answer = tt
 maximal_for files (trace file script) text answer = tt
 maximal_for files (show file) text answer = tt
+maximal_for files (gen seed) text answer = tt
 
 -- what is written whole with this status is such a text
 pub written_maximal : (files : Files) (command : Command) (result : Status) (old new : Option (List ℕ)) → result ≡ Holds →
@@ -237,6 +246,7 @@ trajectory_for files (synth file) text status report answer = tt
 trajectory_for files (ipsec file) text status report answer = tt
 trajectory_for files (trace file script) text status report answer = trajectory_on (play_of files file script) text status (play_fits files file script) report answer
 trajectory_for files (show file) text status report answer = tt
+trajectory_for files (gen seed) text status report answer = tt
 
 -- what is written whole with such a status is such a text
 pub written_trajectory : (files : Files) (command : Command) (result : Status) (old new : Option (List ℕ)) → IsReport result →
@@ -264,6 +274,7 @@ safe_for files (synth file) text status report answer = tt
 safe_for files (ipsec file) text status report answer = safe_on (net_says files file) text status report answer
 safe_for files (trace file script) text status report answer = tt
 safe_for files (show file) text status report answer = tt
+safe_for files (gen seed) text status report answer = tt
 
 -- what is written whole with such a status is such a text
 pub written_safe : (files : Files) (command : Command) (result : Status) (old new : Option (List ℕ)) → IsReport result →

@@ -4,16 +4,23 @@ use Rattle.std.specs.List.{All, AllByRecursion}
 use Rattle.std.proofs.lemmas.List.{get_or_default, get_or-map, length-map}
 use Rattle.std.proofs.lemmas.List.Elements.{All-from_recursion}
 use Rattle.np_space.specs.declared.headers.Header.{Header}
+use Rattle.np_acl_read.specs.declared.config.Config.{Config}
+use Rattle.np_cut.specs.AppliedLists.{AppliedLists, applied_lets}
+use Rattle.np_cut.specs.Applying.{applied_of, slot_lets}
+use Rattle.np_cut.proofs.ApplyLaws.{applied_is}
 use Rattle.np_net.specs.Path.{Leads, area_of}
+use Rattle.np_net.specs.Plan.{Plan}
 use Rattle.np_net.specs.declared.filtering.Goal.{Goal}
 use Rattle.np_net.specs.declared.filtering.Interface.{Interface}
 use Rattle.np_flow.specs.Carrying.{AllCross, Carries, IsFirstPath}
-use Rattle.np_goals.specs.Cases.{goal_at}
+use Rattle.np_goals.specs.Cases.{IsCaseOf, goal_at}
+use Rattle.np_goals.specs.declared.cases.Case.{Case}
 use Rattle.np_goals.specs.Verdicts.{Breaks, IsVerdict}
 use Rattle.np_goals.specs.declared.verdicts.Verdict.{Verdict}
 use Rattle.np_goals.specs.declared.verdicts.Verdict.TheVariants.{Holds, Violated}
 use Rattle.np_pred.specs.declared.predicate.Pred.TheVariants.{Any}
 use Rattle.np_report.specs.Verdicts.{HasInterfaces}
+use Rattle.np_top.specs.Report.{AreRightVerdicts}
 
 -- ---- what crosses the slots may be said in two ways
 
@@ -71,6 +78,21 @@ verdict_so interfaces f g agree goal (Violated header path) right = (
   first_so interfaces (λ slot. f slot header) (λ slot. g slot header) (λ slot within. agree slot within header) goal.from path.hops goal.to right.1,
 )
 
+-- the lists say of each slot of the network what the configurations say
+pub lists_agree : (net : Plan) (configs : List Config) → Agree net.interfaces (applied_lets (applied_of net.interfaces configs)) (slot_lets net.interfaces configs)
+lists_agree net configs slot within h = applied_is net.interfaces configs slot within h
+
+-- the verdicts on the case of the configurations' lists are right
+pub verdicts_right : (net : Plan) (configs : List Config) (case : Case) (verdicts : List Verdict) → IsCaseOf net.interfaces net.goals (applied_of net.interfaces configs) case → length verdicts ≡ length net.goals →
+    ((applied : AppliedLists) → IsCaseOf net.interfaces net.goals applied case → (k : ℕ) (d : Goal) → k < length net.goals → IsVerdict net.interfaces (applied_lets applied) (goal_at net.goals d k) (get_or verdicts k Holds)) →
+    AreRightVerdicts net configs verdicts
+verdicts_right net configs case verdicts are count judged = record {
+  count = count;
+  right = λ k d within.
+      let lists : AppliedLists = applied_of net.interfaces configs in
+      verdict_so net.interfaces (applied_lets lists) (slot_lets net.interfaces configs) (lists_agree net configs) (goal_at net.goals d k) (get_or verdicts k Holds) (judged lists are k d within);
+}
+
 -- ---- the interfaces of the paths
 
 hops_within : (interfaces : List Interface) (hops : List (ℕ × ℕ)) (a b : ℕ) → Leads interfaces a hops b → AllByRecursion (λ hop. (hop.0 < length interfaces) × (hop.1 < length interfaces)) hops
@@ -86,9 +108,9 @@ verdict_within interfaces lets goal Holds right = tt
 verdict_within interfaces lets goal (Violated header path) right = first_within interfaces (λ slot. lets slot header) goal.from path.hops goal.to right.1
 
 -- right verdicts name interfaces that there are
-pub verdicts_within : (interfaces : List Interface) (lets : ℕ → Header → Bool) (goals : List Goal) (vs : List Verdict) → length vs ≡ length goals →
-    ((k : ℕ) (d : Goal) → k < length goals → IsVerdict interfaces lets (goal_at goals d k) (get_or vs k Holds)) → All (HasInterfaces interfaces) vs
-verdicts_within interfaces lets goals vs count right = λ k d within.
-    let here : k < length goals = omega arith in
+pub verdicts_within : (net : Plan) (configs : List Config) (vs : List Verdict) → AreRightVerdicts net configs vs → All (HasInterfaces net.interfaces) vs
+verdicts_within net configs vs are = λ k d within.
+    let here : k < length net.goals = omega (arith, are.count) in
     let goal : Goal = record { from = 0; to = 0; only = false; pred = Any } in
-    subst (HasInterfaces interfaces) (get_or_default vs k Holds d within) (verdict_within interfaces lets (goal_at goals goal k) (get_or vs k Holds) (right k goal here))
+    subst (HasInterfaces net.interfaces) (get_or_default vs k Holds d within)
+    (verdict_within net.interfaces (slot_lets net.interfaces configs) (goal_at net.goals goal k) (get_or vs k Holds) (are.right k goal here))

@@ -11,7 +11,6 @@ use Rattle.np_net.specs.declared.filtering.Interface.{Interface}
 use Rattle.np_net.specs.declared.paths.Path.{Path}
 use Rattle.np_cut.specs.AppliedLists.{AppliedLists, applied_lets}
 use Rattle.np_cut.specs.Applying.{applied_of, slot_lets}
-use Rattle.np_cut.proofs.ApplyLaws.{applied_is}
 use Rattle.np_goals.specs.Cases.{IsCaseOf, goal_at}
 use Rattle.np_goals.specs.declared.cases.Case.{Case}
 use Rattle.np_goals.specs.declared.verdicts.Verdict.TheVariants.{Holds as Met, Violated}
@@ -27,7 +26,7 @@ use Rattle.np_report.specs.Synthesis.{chosen_text, unattainable_text, HopsWithin
 use Rattle.np_top.specs.declared.status.Status.{Status}
 use Rattle.np_top.specs.declared.status.Status.TheVariants.{Holds, Fails}
 use Rattle.np_top.specs.Synthesis.{AreShown, IsChosenReport, IsSynthesisReport}
-use Rattle.np_top.proofs.Reports.{Agree, verdict_so, first_within}
+use Rattle.np_top.proofs.Reports.{Agree, lists_agree, verdict_so, first_within}
 use Rattle.np_top.proofs.SynthesisLaws.{while_shut}
 
 -- ---- what crosses the slots may be said in two ways
@@ -58,10 +57,6 @@ module _ (net : Plan) (f g : ℕ → Header → Bool) (agree : Agree net.interfa
             (λ s within. agree s within h) (λ s within. refl) (is.chosen_is h valid);
         dropped = is.dropped;
       }
-
--- the lists say of each slot of the network what the configurations say
-lists_agree : (net : Plan) (configs : List Config) → Agree net.interfaces (applied_lets (applied_of net.interfaces configs)) (slot_lets net.interfaces configs)
-lists_agree net configs slot within h = applied_is net.interfaces configs slot within h
 
 -- ---- the report
 
@@ -96,24 +91,22 @@ chosen_reported net configs case slots drops text status are is text_is status_i
       status_is = status_is;
     }
 
--- the lists are those that the configurations apply
-pub chosen_answer : (net : Plan) (configs : List Config) (applied : AppliedLists) (case : Case) (slots : List (List Bool)) (drops : List Dropped) (text : List ℕ) (status : Status) → applied ≡ applied_of net.interfaces configs →
-    IsCaseOf net.interfaces net.goals applied case → IsSynthesis net case slots drops → text ≡ chosen_text net case.leasts slots drops → status ≡ Holds → IsSynthesisReport net configs text status
-chosen_answer net configs applied case slots drops text status made are is text_is status_is =
-    inr (chosen_reported net configs case slots drops text status (subst (λ lists. IsCaseOf net.interfaces net.goals lists case) made are) is text_is status_is)
+pub chosen_answer : (net : Plan) (configs : List Config) (case : Case) (slots : List (List Bool)) (drops : List Dropped) (text : List ℕ) (status : Status) →
+    IsCaseOf net.interfaces net.goals (applied_of net.interfaces configs) case → IsSynthesis net case slots drops → text ≡ chosen_text net case.leasts slots drops → status ≡ Holds → IsSynthesisReport net configs text status
+chosen_answer net configs case slots drops text status are is text_is status_is = inr (chosen_reported net configs case slots drops text status are is text_is status_is)
 
 -- a goal that the case can't attain is the first one that headers can't
-unattained_by : (net : Plan) (configs : List Config) (applied : AppliedLists) (case : Case) (goal : ℕ) (header : Header) (path : Path) → applied ≡ applied_of net.interfaces configs → IsCaseOf net.interfaces net.goals applied case →
+unattained_by : (net : Plan) (configs : List Config) (case : Case) (goal : ℕ) (header : Header) (path : Path) → IsCaseOf net.interfaces net.goals (applied_of net.interfaces configs) case →
     IsUnattainable net case goal header path.hops → IsUnattained net (slot_lets net.interfaces configs) goal header path
-unattained_by net configs applied case goal header path made are un =
+unattained_by net configs case goal header path are un =
     let lists : AppliedLists = applied_of net.interfaces configs in
     unattained_so net (applied_lets lists) (slot_lets net.interfaces configs) (lists_agree net configs) goal header path
-    (atoms_deny_for_headers net lists case goal header path (subst (λ lists. IsCaseOf net.interfaces net.goals lists case) made are) un)
+    (atoms_deny_for_headers net lists case goal header path are un)
 
-pub unattained_answer : (net : Plan) (configs : List Config) (applied : AppliedLists) (case : Case) (goal : ℕ) (header : Header) (path : Path) (text : List ℕ) (status : Status) → applied ≡ applied_of net.interfaces configs →
-    IsCaseOf net.interfaces net.goals applied case → IsUnattainable net case goal header path.hops → text ≡ unattainable_text net goal header path.hops → status ≡ Fails → IsSynthesisReport net configs text status
-unattained_answer net configs applied case goal header path text status made are un text_is status_is =
-    inl record { goal = goal; header = header; path = path; unattained = unattained_by net configs applied case goal header path made are un; text_is = text_is; status_is = status_is }
+pub unattained_answer : (net : Plan) (configs : List Config) (case : Case) (goal : ℕ) (header : Header) (path : Path) (text : List ℕ) (status : Status) →
+    IsCaseOf net.interfaces net.goals (applied_of net.interfaces configs) case → IsUnattainable net case goal header path.hops → text ≡ unattainable_text net goal header path.hops → status ≡ Fails → IsSynthesisReport net configs text status
+unattained_answer net configs case goal header path text status are un text_is status_is =
+    inl record { goal = goal; header = header; path = path; unattained = unattained_by net configs case goal header path are un; text_is = text_is; status_is = status_is }
 
 -- ---- what the reports need
 

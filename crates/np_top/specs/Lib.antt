@@ -1,5 +1,6 @@
 pub mod Show
 pub mod Report
+pub mod Generated
 pub mod Synthesis
 pub mod Trace
 pub mod Ipsec

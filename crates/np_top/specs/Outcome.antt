@@ -8,8 +8,9 @@ use Rattle.np_load.specs.Saying.{net_says}
 use Rattle.np_net.specs.Plan.{Plan}
 use Rattle.np_top.specs.declared.status.Status.{Status}
 use Rattle.np_top.specs.declared.status.Status.TheVariants.{Usage, Refused}
-use Rattle.np_top.specs.Commands.{Command, check, atoms, synth, ipsec, trace, show, command_of}
+use Rattle.np_top.specs.Commands.{Command, check, atoms, synth, ipsec, trace, show, gen, command_of}
 use Rattle.np_top.specs.Report.{usage_text, IsCheckReport, IsAtomsReport}
+use Rattle.np_top.specs.Generated.{IsGenReport}
 use Rattle.np_top.specs.Show.{IsCanonical}
 use Rattle.np_top.specs.Synthesis.{IsSynthesisReport, IsMaximalText}
 use Rattle.np_top.specs.Ipsec.{IsIpsecReport, IsSafeText}
@@ -45,6 +46,7 @@ IsAnswerTo files (synth file) text status = IsAnswer IsSynthesisReportOn (inputs
 IsAnswerTo files (ipsec file) text status = IsAnswer IsIpsecReport (net_says files file) text status
 IsAnswerTo files (trace file script) text status = IsAnswer IsTraceReportOn (play_of files file script) text status
 IsAnswerTo files (show file) text status = IsAnswer IsCanonical (net_says files file) text status
+IsAnswerTo files (gen seed) text status = IsGenReport seed text status
 
 -- each file that a command needs is there, up to the first one that is refused
 abbrev pub HasFiles : Files → Command → Type 0
@@ -54,11 +56,26 @@ HasFiles files (synth file) = IsSome (inputs_of files file)
 HasFiles files (ipsec file) = IsSome (net_says files file)
 HasFiles files (trace file script) = IsSome (play_of files file script)
 HasFiles files (show file) = IsSome (net_says files file)
+HasFiles files (gen seed) = Unit {0}
+
+-- a command that reads a file
+abbrev pub ReadsFiles : Command → Type 0
+ReadsFiles (check file) = Unit {0}
+ReadsFiles (atoms file) = Unit {0}
+ReadsFiles (synth file) = Unit {0}
+ReadsFiles (ipsec file) = Unit {0}
+ReadsFiles (trace file script) = Unit {0}
+ReadsFiles (show file) = Unit {0}
+ReadsFiles (gen seed) = ⊥
 
 -- The text and the status are the outcome of these words and files. There is none where a file that is needed isn't there.
 abbrev pub IsOutcome : List (List ℕ) → Files → List ℕ → Status → Type 0
 IsOutcome words files text status =
     MatchOption (command_of words) ((text ≡ usage_text) × (status ≡ Usage)) (λ command. IsAnswerTo files command text status)
+
+-- The words are those of a command that reads a file.
+abbrev pub AreOfFiles : List (List ℕ) → Type 0
+AreOfFiles words = MatchOption (command_of words) ⊥ ReadsFiles
 
 -- Each file that the words need is there, up to the first one that is refused.
 abbrev pub IsDefined : List (List ℕ) → Files → Type 0
@@ -78,6 +95,7 @@ AcceptsFiles files (synth file) = IsAccepted (inputs_of files file)
 AcceptsFiles files (ipsec file) = IsAccepted (net_says files file)
 AcceptsFiles files (trace file script) = IsAccepted (play_of files file script)
 AcceptsFiles files (show file) = IsAccepted (net_says files file)
+AcceptsFiles files (gen seed) = Unit {0}
 
 -- The words fit a command, and all its files are there, within their limit and in their grammars.
 abbrev pub AreAccepted : List (List ℕ) → Files → Type 0
@@ -97,6 +115,7 @@ IsMaximalFor files (synth file) text = IsMaximalOn (inputs_of files file) text
 IsMaximalFor files (ipsec file) text = Unit {0}
 IsMaximalFor files (trace file script) text = Unit {0}
 IsMaximalFor files (show file) text = Unit {0}
+IsMaximalFor files (gen seed) text = Unit {0}
 
 -- Where the words are those of a synthesis, the text is that of a maximal posture.
 abbrev pub IsMaximalOutcome : List (List ℕ) → Files → List ℕ → Type 0
@@ -116,6 +135,7 @@ IsTrajectoryFor files (synth file) text = Unit {0}
 IsTrajectoryFor files (ipsec file) text = Unit {0}
 IsTrajectoryFor files (trace file script) text = IsTrajectoryOn (play_of files file script) text
 IsTrajectoryFor files (show file) text = Unit {0}
+IsTrajectoryFor files (gen seed) text = Unit {0}
 
 -- Where the words are those of a replay, the text is that of a trajectory.
 abbrev pub IsTrajectoryOutcome : List (List ℕ) → Files → List ℕ → Type 0
@@ -135,6 +155,7 @@ IsSafeFor files (synth file) text = Unit {0}
 IsSafeFor files (ipsec file) text = IsSafeOn (net_says files file) text
 IsSafeFor files (trace file script) text = Unit {0}
 IsSafeFor files (show file) text = Unit {0}
+IsSafeFor files (gen seed) text = Unit {0}
 
 -- Where the words ask about IPsec goals, each yes is safe.
 abbrev pub IsSafeOutcome : List (List ℕ) → Files → List ℕ → Type 0

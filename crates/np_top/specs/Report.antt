@@ -25,11 +25,15 @@ usage_text = codes "usage" ++ 10 ∷ []
 abbrev pub verdicts_status : List Verdict → Status
 verdicts_status verdicts = if all_hold verdicts then Holds else Fails
 
--- The report on the goals: the right verdict on each of them, by what crosses the slots, and whether all hold.
-pub record IsCheckReport (net : Plan) (configs : List Config) (text : List ℕ) (status : Status) : Type 0 where
-  pub verdicts : List Verdict
+-- The right verdict on each goal, by what crosses the slots.
+pub record AreRightVerdicts (net : Plan) (configs : List Config) (verdicts : List Verdict) : Type 0 where
   pub count : length verdicts ≡ length net.goals
   pub right : (k : ℕ) (d : Goal) → k < length net.goals → IsVerdict net.interfaces (slot_lets net.interfaces configs) (goal_at net.goals d k) (slice_index_or verdicts k verdict.Holds)
+
+-- The report on the goals: the right verdict on each of them, and whether all hold.
+pub record IsCheckReport (net : Plan) (configs : List Config) (text : List ℕ) (status : Status) : Type 0 where
+  pub verdicts : List Verdict
+  pub right : AreRightVerdicts net configs verdicts
   pub text_is : text ≡ verdicts_text net verdicts
   pub status_is : status ≡ verdicts_status verdicts
 

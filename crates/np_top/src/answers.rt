@@ -1,6 +1,6 @@
 //! The answers to the commands.
 
-ghost use Rattle.std.specs.Prelude.{◌≡◌, ◌≢◌, ◌<◌, ℕ, Some, IfOk, IsErrOf, length, slice_get, slice_index_or};
+ghost use Rattle.std.specs.Prelude.{◌≡◌, ◌≢◌, ◌<◌, ℕ, Some, IfOk, IsErrOf, length, slice_get};
 ghost use Rattle.np_outside.specs.Counts.{Rose};
 ghost use Rattle.np_outside.specs.Files.{Files};
 ghost use Rattle.np_space.specs.Classes.{AreLeasts};
@@ -11,15 +11,12 @@ ghost use Rattle.np_auth.specs.Answers as auth;
 ghost use Rattle.np_auth.specs.Answers.{IsAuth, IsAuthGoal};
 ghost use Rattle.np_conf.specs.Answers as conf;
 ghost use Rattle.np_conf.specs.Answers.{IsConf, ipgoal_at};
-ghost use Rattle.np_net.specs.declared.filtering.Goal.{Goal};
 ghost use Rattle.np_atoms.specs.Atoms.{AreAtoms};
-ghost use Rattle.np_cut.specs.Applying.{slot_lets};
+ghost use Rattle.np_cut.specs.Applying.{applied_of};
 ghost use Rattle.np_cut.specs.FilterCuts.{filter_tests};
 ghost use Rattle.np_ipgoals.specs.Cuts.{ipsec_tests};
 ghost use Rattle.np_ipgoals.specs.Findings.{AreFindings};
-ghost use Rattle.np_goals.specs.Cases.{goal_at};
-ghost use Rattle.np_goals.specs.Verdicts.{IsVerdict};
-ghost use Rattle.np_goals.specs.declared.verdicts.Verdict.TheVariants as verdict;
+ghost use Rattle.np_goals.specs.Cases.{IsCaseOf};
 ghost use Rattle.np_top.specs.declared.answers.Fault.TheVariants as faults;
 ghost use Rattle.np_top.specs.Commands.{command_in};
 ghost use Rattle.np_load.specs.declared.halt.Halt.{Halt as Ended};
@@ -27,7 +24,8 @@ ghost use Rattle.np_load.specs.declared.halt.Halt.TheVariants as halts;
 ghost use Rattle.np_load.specs.Keeping.{KeepsShelf};
 ghost use Rattle.np_load.specs.Loading.{inputs_in, play_in};
 ghost use Rattle.np_top.specs.Replying.{Replies};
-ghost use Rattle.np_top.specs.Outcome.{IsAnswerTo, IsAtomsReportOn, IsCheckReportOn, IsSynthesisReportOn, IsTraceReportOn, HasFiles};
+ghost use Rattle.np_top.specs.Generated.{IsGenReport, IsSummaryReport};
+ghost use Rattle.np_top.specs.Outcome.{IsAnswerTo, IsAtomsReportOn, IsCheckReportOn, IsSynthesisReportOn, IsTraceReportOn, HasFiles, ReadsFiles};
 ghost use Rattle.np_top.specs.Ipsec.{AreRightAnswers, IsIpsecReport, IsRightAnswer};
 ghost use Rattle.np_top.specs.Synthesis.{IsSynthesisReport};
 ghost use Rattle.np_top.specs.Trace.{IsTraceReport};
@@ -37,7 +35,7 @@ ghost use Rattle.np_top.specs.Status.{IsSettled};
 
 use crate::commands::Command;
 use crate::report::{
-    Answer, answers_report, atoms_report, canonical, chosen_report, replay_report,
+    Answer, answers_report, atoms_report, canonical, chosen_report, replay_report, summary_report,
     unattainable_report, verdicts_report,
 };
 use crate::status::Status;
@@ -47,7 +45,8 @@ use np_atoms::Atoms;
 use np_auth::{Answer as AuthAnswer, check_auth};
 use np_conf::{Answer as ConfAnswer, check_conf};
 use np_cut::{Applied, apply, filter_cuts};
-use np_goals::{Verdict, case_of, judge};
+use np_generated::{GeneratedInputs, read_generated};
+use np_goals::{Case, Gate, case_of, judge_par};
 use np_ipgoals::{Findings, findings, ipsec_cuts};
 use np_ipsec_report::IpAnswer;
 use np_load::{Halt, Inputs, Play, load_inputs, load_net, load_play};
@@ -59,6 +58,7 @@ use np_synth::{SynthError, synthesise};
 use np_traj::replay;
 use sqlite_items::Items;
 use std::alloc::{AllocError, Global};
+use std::thread::Threads;
 
 /// Why nothing is written.
 #[derive(Clone, Copy)]
@@ -84,32 +84,83 @@ fn filter_atoms<G: Atomizer>(
     Ok(store.atomize(alloc, cuts.as_slice())?.atoms)
 }
 
-/// The verdict on each goal of a network, by the configurations of its devices.
-fn verdicts<G: Atomizer>(
+/// What the judging of a network's goals needs: what crosses its slots by the configurations of its devices, and what its
+/// goals forbid.
+fn case_by<G: Atomizer>(
     alloc: Global,
     store: &mut G,
     net: &Network,
     configs: Vec<Config>,
-) -> Result<Items<Verdict>, AllocError>
+) -> Result<Case, AllocError>
     ensures kept { KeepsRegions G.fits G.has_header store.old store.new }
-    ensures count { IfOk result (λ v. length v ≡ length net.now.goals) }
-    ensures right { IfOk result (λ v. (k : ℕ) (d : Goal) → k < length net.now.goals → IsVerdict net.now.interfaces (slot_lets net.now.interfaces configs.items) (goal_at net.now.goals d k) (slice_index_or v k verdict.Holds)) }
+    ensures case { IfOk result (λ case. IsCaseOf net.now.interfaces net.now.goals (applied_of net.now.interfaces configs.items) case) }
 {
     let applied = apply(alloc, net, configs)?;
     let atoms = filter_atoms(alloc, store, net, &applied)?;
-    let case = case_of(alloc, net, &applied, atoms)?;
-    Ok(judge(alloc, net, &case)?)
+    case_of(alloc, net, &applied, atoms)
 }
 
-/// The answer to `check`: the report on the goals.
-fn check<G: Atomizer>(alloc: Global, store: &mut G, inputs: Inputs) -> Result<Answer, AllocError>
+/// The answer to `check`: the report on the goals, which so many workers judge at most.
+fn check<R: Threads + Sync, G: Atomizer, T: Gate + Sync>(
+    rt: &R,
+    alloc: Global,
+    store: &mut G,
+    inputs: Inputs,
+    workers: usize,
+    gate: &T,
+) -> Result<Answer, AllocError>
     ensures report { IfOk result (λ answer. IsCheckReportOn (inputs_in inputs) answer.text answer.status) }
     ensures settled { IfOk result (λ answer. IsSettled answer.status × (answer.status ≢ Status.Usage)) }
     ensures kept { KeepsRegions G.fits G.has_header store.old store.new }
 {
     let Inputs { net, configs } = inputs;
-    let verdicts = verdicts(alloc, store, &net, configs)?;
+    let case = case_by(alloc, store, &net, configs)?;
+    let verdicts = judge_par(rt, alloc, &net, &case, workers, gate)?;
     Ok(verdicts_report(alloc, &net, verdicts.as_slice())?)
+}
+
+/// The summary of the report on the goals, of this network and these configurations.
+fn summary<R: Threads + Sync, G: Atomizer, T: Gate + Sync>(
+    rt: &R,
+    alloc: Global,
+    store: &mut G,
+    seed: u32,
+    net: &Network,
+    configs: Vec<Config>,
+    workers: usize,
+    gate: &T,
+) -> Result<Answer, AllocError>
+    ensures report { IfOk result (λ answer. IsSummaryReport seed net.now configs.items answer.text answer.status) }
+    ensures settled { IfOk result (λ answer. IsSettled answer.status × (answer.status ≢ Status.Usage)) }
+    ensures kept { KeepsRegions G.fits G.has_header store.old store.new }
+{
+    let case = case_by(alloc, store, net, configs)?;
+    let verdicts = judge_par(rt, alloc, net, &case, workers, gate)?;
+    Ok(summary_report(
+        alloc,
+        seed,
+        net,
+        case.leasts.len(),
+        verdicts.as_slice(),
+    )?)
+}
+
+/// The answer to `gen`: the summary for the network and the configurations of a seed.
+fn generated<R: Threads + Sync, G: Atomizer, T: Gate + Sync>(
+    rt: &R,
+    alloc: Global,
+    store: &mut G,
+    seed: u32,
+    workers: usize,
+    gate: &T,
+) -> Result<Answer, AllocError>
+    ensures report { IfOk result (λ answer. IsGenReport seed answer.text answer.status) }
+    ensures settled { IfOk result (λ answer. IsSettled answer.status × (answer.status ≢ Status.Usage)) }
+    ensures kept { KeepsRegions G.fits G.has_header store.old store.new }
+{
+    let inputs = read_generated(alloc, seed)?;
+    let GeneratedInputs { net, configs } = inputs;
+    summary(rt, alloc, store, seed, &net, configs, workers, gate)
 }
 
 /// The answer to `atoms`: the report on the atoms.
@@ -137,9 +188,7 @@ fn synthesis<G: Atomizer>(
 {
     // What is known of every network says how many slots it has.
     let _ = &net.free;
-    let applied = apply(alloc, net, configs)?;
-    let atoms = filter_atoms(alloc, store, net, &applied)?;
-    let case = case_of(alloc, net, &applied, atoms)?;
+    let case = case_by(alloc, store, net, configs)?;
     match synthesise(alloc, net, &case) {
         Ok(chosen) => Ok(chosen_report(alloc, net, case.leasts.as_slice(), &chosen)?),
         Err(SynthError::Unattainable { goal, header, path }) => {
@@ -299,25 +348,27 @@ fn show(alloc: Global, net: Network) -> Result<Answer, AllocError>
 }
 
 /// The answer to a command over files that are not refused.
-fn answer<G: Atomizer, S: Shelf>(
+fn answer<R: Threads + Sync, G: Atomizer, S: Shelf, T: Gate + Sync>(
+    rt: &R,
     alloc: Global,
     store: &mut G,
     shelf: &mut S,
     command: Command,
+    gate: &T,
 ) -> Result<Answer, Halt>
     ensures says { (files : Files) → S.files shelf.old ≡ Some files → Replies result (IsAnswerTo files (command_in command.entry)) }
     ensures settled { IfOk result (λ answer. IsSettled answer.status × (answer.status ≢ Status.Usage)) }
 
-    ensures failed { IsErrOf result halts.ReadFault → Rose (S.faults shelf.old) (S.faults shelf.new) }
+    ensures failed { IsErrOf result halts.ReadFault → Rose (S.faults shelf.old) (S.faults shelf.new) × ReadsFiles (command_in command.entry) }
     ensures broken { IsErrOf result halts.ReadFault → (files : Files) → S.files shelf.old ≡ Some files →
         HasFiles files (command_in command.entry) → Rose (S.breaks shelf.old) (S.breaks shelf.new) }
     ensures shelf { KeepsShelf S.files S.cap S.faults S.breaks shelf.old shelf.new }
     ensures store { KeepsRegions G.fits G.has_header store.old store.new }
 {
     match command {
-        Command::Check(file) => {
+        Command::Check(file, workers) => {
             let inputs = load_inputs(alloc, shelf, file)?;
-            Ok(check(alloc, store, inputs)?)
+            Ok(check(rt, alloc, store, inputs, workers, gate)?)
         }
         Command::Atoms(file) => {
             let inputs = load_inputs(alloc, shelf, file)?;
@@ -339,27 +390,30 @@ fn answer<G: Atomizer, S: Shelf>(
             let net = load_net(alloc, shelf, file)?;
             Ok(show(alloc, net)?)
         }
+        Command::Gen(seed, workers) => Ok(generated(rt, alloc, store, seed, workers, gate)?),
     }
 }
 
 /// What is written for a command: its answer, or the line that refuses a file.
-pub fn respond<G: Atomizer, S: Shelf>(
+pub fn respond<R: Threads + Sync, G: Atomizer, S: Shelf, T: Gate + Sync>(
+    rt: &R,
     alloc: Global,
     store: &mut G,
     shelf: &mut S,
     command: Command,
+    gate: &T,
 ) -> Result<Answer, Fault>
     ensures ok { IfOk result (λ answer. (files : Files) → S.files shelf.old ≡ Some files →
         IsAnswerTo files (command_in command.entry) answer.text answer.status) }
     ensures settled { IfOk result (λ answer. IsSettled answer.status × (answer.status ≢ Status.Usage)) }
 
-    ensures failed { IsErrOf result Fault.Read → Rose (S.faults shelf.old) (S.faults shelf.new) }
+    ensures failed { IsErrOf result Fault.Read → Rose (S.faults shelf.old) (S.faults shelf.new) × ReadsFiles (command_in command.entry) }
     ensures broken { IsErrOf result Fault.Read → (files : Files) → S.files shelf.old ≡ Some files →
         HasFiles files (command_in command.entry) → Rose (S.breaks shelf.old) (S.breaks shelf.new) }
     ensures shelf { KeepsShelf S.files S.cap S.faults S.breaks shelf.old shelf.new }
     ensures store { KeepsRegions G.fits G.has_header store.old store.new }
 {
-    match answer(alloc, store, shelf, command) {
+    match answer(rt, alloc, store, shelf, command, gate) {
         Ok(answer) => Ok(answer),
         Err(Halt::Refused(text)) => Ok(Answer {
             text,

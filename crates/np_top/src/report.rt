@@ -6,6 +6,7 @@ ghost use Rattle.np_net_text.specs.Canonical.{net_text};
 ghost use Rattle.np_report.specs.Atoms.{atoms_text};
 ghost use Rattle.np_report.specs.Verdicts.{HasInterfaces, is_holding, verdicts_text};
 ghost use Rattle.np_report.specs.Verdicts as verdict_texts;
+ghost use Rattle.np_report.specs.Summary.{summary_text};
 ghost use Rattle.np_report.specs.Synthesis.{AreInOrder, HopsWithin, chosen_text, unattainable_text};
 ghost use Rattle.np_traj.specs.States.{IsStateOf};
 ghost use Rattle.np_ipsec_report.specs.Answers.{answers_text, HasPlaces};
@@ -23,7 +24,7 @@ use np_goals::Verdict;
 use np_ipsec_report::{IpAnswer, put_answers, put_replay};
 use np_net::{Network, Path};
 use np_net_text::put_net;
-use np_report::{put_atoms, put_chosen, put_unattainable, put_verdicts};
+use np_report::{put_atoms, put_chosen, put_summary, put_unattainable, put_verdicts};
 use np_space::Header;
 use np_synth::Chosen;
 use np_traj::Replayed;
@@ -86,6 +87,17 @@ fn all_hold(verdicts: &[Verdict]) -> bool
     verdicts.iter().all(|verdict| holds(verdict))
 }
 
+/// The status that goes with verdicts.
+fn verdicts_status(verdicts: &[Verdict]) -> Status
+    ensures { result ≡ verdicts_status verdicts.now }
+{
+    if all_hold(verdicts) {
+        Status::Holds
+    } else {
+        Status::Fails
+    }
+}
+
 /// The report on verdicts.
 pub fn verdicts_report(
     alloc: Global,
@@ -98,13 +110,29 @@ pub fn verdicts_report(
 {
     let mut text = Vec::new(alloc);
     put_verdicts(alloc, &mut text, net, verdicts)?;
-    let text = Items::from_vec(text);
-    let status = if all_hold(verdicts) {
-        Status::Holds
-    } else {
-        Status::Fails
-    };
-    Ok(Answer { text, status })
+    Ok(Answer {
+        text: Items::from_vec(text),
+        status: verdicts_status(verdicts),
+    })
+}
+
+/// The summary of the report on verdicts, with this seed and so many atoms.
+pub fn summary_report(
+    alloc: Global,
+    seed: u32,
+    net: &Network,
+    atoms: usize,
+    verdicts: &[Verdict],
+) -> Result<Answer, AllocError>
+    ensures text { IfOk result (λ answer. answer.text ≡ summary_text seed net.now atoms verdicts.now) }
+    ensures status { IfOk result (λ answer. answer.status ≡ verdicts_status verdicts.now) }
+{
+    let mut text = Vec::new(alloc);
+    put_summary(alloc, &mut text, seed, net, atoms, verdicts)?;
+    Ok(Answer {
+        text: Items::from_vec(text),
+        status: verdicts_status(verdicts),
+    })
 }
 
 /// The report on a chosen posture.

@@ -6,7 +6,7 @@ ghost use Rattle.np_outside.specs.Files.{Files};
 ghost use Rattle.np_load.specs.Keeping.{KeepsShelf};
 ghost use Rattle.np_region.specs.Keeping.{KeepsRegions};
 ghost use Rattle.np_top.specs.Commands.{command_in, command_of};
-ghost use Rattle.np_top.specs.Outcome.{texts_of, AcceptsFiles, AreAccepted, HasFiles, IsAnswerTo, IsMaximalOutcome, IsMaximalFor, IsSafeFor, IsSafeOutcome, IsTrajectoryFor, IsTrajectoryOutcome, IsOutcome, IsDefined};
+ghost use Rattle.np_top.specs.Outcome.{texts_of, AcceptsFiles, AreAccepted, AreOfFiles, HasFiles, ReadsFiles, IsAnswerTo, IsMaximalOutcome, IsMaximalFor, IsSafeFor, IsSafeOutcome, IsTrajectoryFor, IsTrajectoryOutcome, IsOutcome, IsDefined};
 ghost use Rattle.np_top.specs.Report.{usage_text};
 ghost use Rattle.np_top.specs.Status.{IsReport, IsSettled, IsUnlessFault};
 ghost use Rattle.np_top.specs.Written.{Took, TookPrefix};
@@ -16,6 +16,7 @@ use crate::commands::{Command, parse};
 use crate::status::Status;
 use np_atomizer::Atomizer;
 use np_bdd::Diagrams;
+use np_goals::{Gate, NoGate};
 use np_outside::{Shelf, Sink, write_all};
 use std::alloc::Global;
 use std::thread::Threads;
@@ -35,12 +36,14 @@ fn write<K: Sink>(sink: &mut K, text: &[u8], status: Status) -> Status
 }
 
 /// Runs a command over the files of the shelf, and writes its text to the sink.
-fn run_command<G: Atomizer, S: Shelf, K: Sink>(
+fn run_command<R: Threads + Sync, G: Atomizer, S: Shelf, K: Sink, T: Gate + Sync>(
+    rt: &R,
     alloc: Global,
     store: &mut G,
     command: Command,
     shelf: &mut S,
     sink: &mut K,
+    gate: &T,
 ) -> Status
     ensures outcome { IsSettled result → (files : Files) → S.files shelf.old ≡ Some files →
         (text : List ℕ) × IsAnswerTo files (command_in command.entry) text result × Took (K.taken sink.old) (K.taken sink.new) text }
@@ -48,7 +51,8 @@ fn run_command<G: Atomizer, S: Shelf, K: Sink>(
         IsAnswerTo files (command_in command.entry) text status → IsUnlessFault status result }
     ensures usage { result ≢ Status.Usage }
 
-    ensures read_fault { result ≡ Status.ReadFault → Rose (S.faults shelf.old) (S.faults shelf.new) × (K.taken sink.new ≡ K.taken sink.old) }
+    ensures read_fault { result ≡ Status.ReadFault → Rose (S.faults shelf.old) (S.faults shelf.new)
+        × ReadsFiles (command_in command.entry) × (K.taken sink.new ≡ K.taken sink.old) }
     ensures read_break { result ≡ Status.ReadFault → (files : Files) → S.files shelf.old ≡ Some files →
         HasFiles files (command_in command.entry) → Rose (S.breaks shelf.old) (S.breaks shelf.new) }
 
@@ -76,7 +80,7 @@ fn run_command<G: Atomizer, S: Shelf, K: Sink>(
     ensures faults_grow { K.faults sink.old ≤ K.faults sink.new }
     ensures store { KeepsRegions G.fits G.has_header store.old store.new }
 {
-    match respond(alloc, store, shelf, command) {
+    match respond(rt, alloc, store, shelf, command, gate) {
         Ok(answer) => write(sink, answer.text.as_slice(), answer.status),
         Err(Fault::Read) => Status::ReadFault,
         Err(Fault::Memory) => Status::Memory,
@@ -86,14 +90,16 @@ fn run_command<G: Atomizer, S: Shelf, K: Sink>(
 /// Runs the command that the words name, without the program's name, over the files of the shelf, with this store of
 /// regions, and writes its text to the sink. The regions of the store stay as they are.
 ///
-/// The commands are those of [`run`], which makes a store of its own.
-pub fn run_in<R: Threads + Sync, G: Atomizer, S: Shelf, K: Sink>(
+/// The commands are those of [`run`], which makes a store of its own and lets nobody watch. Where goals are judged, the
+/// gate is told of each area at which goals begin, by the thread that judges these goals.
+pub fn run_in<R: Threads + Sync, G: Atomizer, S: Shelf, K: Sink, T: Gate + Sync>(
     rt: &R,
     alloc: Global,
     store: &mut G,
     words: &[String],
     shelf: &mut S,
     sink: &mut K,
+    gate: &T,
 ) -> Status
     // With status 0 to 3 the text written and the status are the outcome of the words and the files.
     ensures outcome { IsSettled result → (files : Files) → S.files shelf.old ≡ Some files →
@@ -107,10 +113,10 @@ pub fn run_in<R: Threads + Sync, G: Atomizer, S: Shelf, K: Sink>(
     ensures usage_only { IsNone (command_of (texts_of words.now)) →
         (result ≡ Status.Usage) ⊎ (result ≡ Status.WriteFault) × TookPrefix (K.taken sink.old) (K.taken sink.new) usage_text }
 
-    // A fault of reading comes only where the shelf's faults rose, for a command, and nothing was written. Where the
-    // needed files are there, it comes only where the shelf's breaks rose too.
+    // A fault of reading comes only where the shelf's faults rose, for a command that reads a file, and nothing was
+    // written. Where the needed files are there, it comes only where the shelf's breaks rose too.
     ensures read_fault { result ≡ Status.ReadFault → Rose (S.faults shelf.old) (S.faults shelf.new)
-        × IsSome (command_of (texts_of words.now)) × (K.taken sink.new ≡ K.taken sink.old) }
+        × AreOfFiles (texts_of words.now) × (K.taken sink.new ≡ K.taken sink.old) }
     ensures read_break { result ≡ Status.ReadFault → (files : Files) → S.files shelf.old ≡ Some files →
         IsDefined (texts_of words.now) files → Rose (S.breaks shelf.old) (S.breaks shelf.new) }
 
@@ -156,17 +162,18 @@ pub fn run_in<R: Threads + Sync, G: Atomizer, S: Shelf, K: Sink>(
 
     ensures store { KeepsRegions G.fits G.has_header store.old store.new }
 {
-    let _ = rt;
     let Some(command) = parse(words) else {
         return write(sink, b"usage\n", Status::Usage);
     };
-    run_command(alloc, store, command, shelf, sink)
+    run_command(rt, alloc, store, command, shelf, sink, gate)
 }
 
 /// Runs the command that the words name, without the program's name, over the files of the shelf, and writes its text
 /// to the sink.
 ///
-/// `check NET` reads the file NET and then the configuration of each of its devices, and writes a verdict on each goal.
+/// `check NET` and `check NET WORKERS` read the file NET and then the configuration of each of its devices, and write a
+/// verdict on each goal. WORKERS is a number from 1 to 64, and 1 where it is left out: the goals are judged by so many
+/// threads at most, and what is written is the same for each number.
 /// `atoms NET` reads the same files, and writes the atoms of the network's filter cuts, with what each cut says of each.
 /// `synth NET` reads the same files, and writes a maximal posture that meets the goals, with what its free slots drop and
 /// why; or the first goal that is broken even with all free slots shut.
@@ -174,6 +181,9 @@ pub fn run_in<R: Threads + Sync, G: Atomizer, S: Shelf, K: Sink>(
 /// `trace NET SCRIPT` reads the file NET and then the file SCRIPT, and writes what becomes of the script's packet: its states as
 /// far as its moves are legal, why one isn't, and which IPsec goals are broken.
 /// `show NET` reads the file NET, and writes the canonical text of the network that it declares.
+/// `gen NUMBER` and `gen NUMBER WORKERS` read no file, and write the summary of the report on the network of the seed
+/// NUMBER, from 0 to 4,294,967,295: its sizes, how many atoms its filter cuts have, how many goals are violated, and how
+/// many hops the report has. WORKERS is as for `check`.
 pub fn run<R: Threads + Sync, S: Shelf, K: Sink>(
     rt: &R,
     alloc: Global,
@@ -193,10 +203,10 @@ pub fn run<R: Threads + Sync, S: Shelf, K: Sink>(
     ensures usage_only { IsNone (command_of (texts_of words.now)) →
         (result ≡ Status.Usage) ⊎ (result ≡ Status.WriteFault) × TookPrefix (K.taken sink.old) (K.taken sink.new) usage_text }
 
-    // A fault of reading comes only where the shelf's faults rose, for a command, and nothing was written. Where the
-    // needed files are there, it comes only where the shelf's breaks rose too.
+    // A fault of reading comes only where the shelf's faults rose, for a command that reads a file, and nothing was
+    // written. Where the needed files are there, it comes only where the shelf's breaks rose too.
     ensures read_fault { result ≡ Status.ReadFault → Rose (S.faults shelf.old) (S.faults shelf.new)
-        × IsSome (command_of (texts_of words.now)) × (K.taken sink.new ≡ K.taken sink.old) }
+        × AreOfFiles (texts_of words.now) × (K.taken sink.new ≡ K.taken sink.old) }
     ensures read_break { result ≡ Status.ReadFault → (files : Files) → S.files shelf.old ≡ Some files →
         IsDefined (texts_of words.now) files → Rose (S.breaks shelf.old) (S.breaks shelf.new) }
 
@@ -240,12 +250,11 @@ pub fn run<R: Threads + Sync, S: Shelf, K: Sink>(
     ensures room { K.room sink.new ≡ K.room sink.old }
     ensures faults_grow { K.faults sink.old ≤ K.faults sink.new }
 {
-    let _ = rt;
     let Some(command) = parse(words) else {
         return write(sink, b"usage\n", Status::Usage);
     };
     match Diagrams::new(alloc) {
-        Ok(mut store) => run_command(alloc, &mut store, command, shelf, sink),
+        Ok(mut store) => run_command(rt, alloc, &mut store, command, shelf, sink, &NoGate),
         Err(_) => Status::Memory,
     }
 }

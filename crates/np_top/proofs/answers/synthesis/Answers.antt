@@ -24,8 +24,8 @@ pub returns-in-Ok-clause-report : goal.returns-in-Ok-clause-report
 returns-in-Ok-clause-report g c =
     let answer = c.in_ok-chosen_report-in-Ok.field-0 in
     let chosen = c.in-Ok.chosen in
-    chosen_answer c.args.net.now c.args.configs.items c.in_ok-applied.applied c.in_ok-case.case chosen.posture.slots chosen.dropped answer.text answer.status
-    c.in_ok-applied.ensures.made c.in_ok-case.ensures c.in-Ok.ensures.chosen
+    chosen_answer c.args.net.now c.args.configs.items c.in_ok-case.case chosen.posture.slots chosen.dropped answer.text answer.status
+    c.in_ok-case.ensures.case c.in-Ok.ensures.chosen
     (c.in_ok-chosen_report-in-Ok.ensures.text ∙ ap (λ leasts. chosen_text c.args.net.now leasts chosen.posture.slots chosen.dropped) c.as_slice.ensures)
     c.in_ok-chosen_report-in-Ok.ensures.status
 
@@ -43,6 +43,6 @@ pub returns-in-Err-Unattainable-clause-report : goal.returns-in-Err-Unattainable
 returns-in-Err-Unattainable-clause-report g c =
     let un = c.in-Err-Unattainable in
     let report = c.in_ok-unattainable_report-in-Err-Unattainable in
-    unattained_answer c.args.net.now c.args.configs.items c.in_ok-applied.applied c.in_ok-case.case un.goal un.header un.path report.field-0.text report.field-0.status
-    c.in_ok-applied.ensures.made c.in_ok-case.ensures (un.ensures.unattainable un.goal un.header un.path (λ i. Err (un.field-0-is i)))
+    unattained_answer c.args.net.now c.args.configs.items c.in_ok-case.case un.goal un.header un.path report.field-0.text report.field-0.status
+    c.in_ok-case.ensures.case (un.ensures.unattainable un.goal un.header un.path (λ i. Err (un.field-0-is i)))
     report.ensures.text report.ensures.status

@@ -2,7 +2,7 @@ use Rattle.np_top.specs.declared.status.Status.TheVariants.{Usage}
 use Rattle.np_top.specs.Commands.{command_in}
 use Rattle.np_top.specs.Outcome.{texts_of, IsOutcome}
 use Rattle.np_top.specs.Report.{usage_text}
-use Rattle.np_top.proofs.Outcomes.{usage_outcome, answer_outcome, written_whole, written_part, complete_outcome, maximal_command, trajectory_command, safe_command, accepted_command, none_accepted}
+use Rattle.np_top.proofs.Outcomes.{usage_outcome, answer_outcome, of_files, written_whole, written_part, complete_outcome, maximal_command, trajectory_command, safe_command, accepted_command, none_accepted}
 use Rattle.np_top.proofs.top.run_in.Goals as goal
 
 pub returns-in_default-clause-outcome : goal.returns-in_default-clause-outcome
@@ -12,6 +12,11 @@ returns-in_default-clause-outcome g c = λ settled files told.
 pub returns-in_default-clause-write_prefix : goal.returns-in_default-clause-write_prefix
 returns-in_default-clause-write_prefix g c = λ is files told.
     written_part (IsOutcome (texts_of c.args.words.now) files) usage_text Usage c.write.result _ _ _ (usage_outcome (texts_of c.args.words.now) files c.in_default.ensures) tt c.write.ensures.written is
+
+pub returns-clause-read_fault : goal.returns-clause-read_fault
+returns-clause-read_fault g c = λ is.
+    let f = c.run_command.ensures.read_fault is in
+    (f.0, of_files (texts_of c.args.words.now) (command_in c.in-Some.command) c.in-Some.ensures f.1, f.2)
 
 pub returns-clause-write_prefix : goal.returns-clause-write_prefix
 returns-clause-write_prefix g c = λ is files told.

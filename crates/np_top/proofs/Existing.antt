@@ -1,5 +1,5 @@
 -- Where the needed files are there, there is an outcome.
-use Rattle.std.proofs.Common.{◌≡◌, ℕ, zero, suc, ◌<◌, Bool, List, [], ◌∷◌, length, get_or, map, Option, Some, None, Result, Ok, Err, refl, sym, ◌∙◌, arith, ap}
+use Rattle.std.proofs.Common.{◌≡◌, ℕ, zero, suc, ◌<◌, Bool, List, [], ◌∷◌, ◌++◌, length, get_or, map, Option, Some, None, Result, Ok, Err, refl, sym, ◌∙◌, arith, ap}
 use Rattle.std.proofs.lemmas.Simd.{map-map}
 use Rattle.std.specs.Prelude.{MatchOption, IsSome}
 use Rattle.np_outside.specs.Files.{Files}
@@ -27,12 +27,14 @@ use Rattle.np_report.specs.Atoms.{atoms_text}
 use Rattle.np_report.specs.Summary.{summary_text}
 use Rattle.np_report.specs.Verdicts.{verdicts_text}
 use Rattle.np_load.specs.Inputs.{inputs_of, play_of}
+use Rattle.np_load.specs.Noting.{Noted, noted_of}
 use Rattle.np_load.specs.Saying.{net_says}
 use Rattle.np_top.specs.declared.status.Status.{Status}
 use Rattle.np_top.specs.declared.status.Status.TheVariants.{Usage, Refused}
 use Rattle.np_top.specs.declared.status.Status.TheVariants as status
-use Rattle.np_top.specs.Commands.{Command, check, atoms, synth, ipsec, trace, show, gen, command_of}
+use Rattle.np_top.specs.Commands.{Command, check, atoms, synth, ipsec, trace, show, notes, gen, command_of}
 use Rattle.np_top.specs.Outcome.{IsAnswer, IsAnswerTo, IsCheckReportOn, IsAtomsReportOn, IsSynthesisReportOn, IsTraceReportOn, HasFiles, IsOutcome, IsDefined}
+use Rattle.np_top.specs.Notes.{last_line, notes_status, IsNotesReport}
 use Rattle.np_top.specs.Generated.{IsGenReport, IsSummaryReport}
 use Rattle.np_top.specs.Report.{usage_text, AreRightVerdicts, IsCheckReport, IsAtomsReport, cuts_of, verdicts_status}
 use Rattle.np_top.specs.Ipsec.{IsIpsecReport}
@@ -113,6 +115,7 @@ an_answer_to files (ipsec file) there = an_answer IsIpsecReport (net_says files 
 an_answer_to files (trace file script) there =
     an_answer IsTraceReportOn (play_of files file script) (λ play said. a_trace_report play.net play.script (play_fits files file script play said)) there
 an_answer_to files (show file) there = an_answer IsCanonical (net_says files file) (λ net said. (net_text net, status.Holds, (refl, refl))) there
+an_answer_to files (notes file) there = an_answer IsNotesReport (noted_of files file) (λ noted said. (noted.text ++ last_line noted.clean, notes_status noted.clean, (refl, refl))) there
 an_answer_to files (gen seed) there = a_gen_report seed
 
 pub an_outcome : (words : List (List ℕ)) (files : Files) → IsDefined words files → There (IsOutcome words files)

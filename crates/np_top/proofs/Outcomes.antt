@@ -6,14 +6,16 @@ use Rattle.np_top.specs.declared.status.Status.{Status}
 use Rattle.np_top.specs.declared.status.Status.TheVariants.{Holds, Fails, Usage, Refused, ReadFault, WriteFault, Memory}
 use Rattle.np_net.specs.Plan.{Plan}
 use Rattle.np_script.specs.Fitting.{Fits}
-use Rattle.np_top.specs.Commands.{Command, check, atoms, synth, ipsec, trace, show, gen, command_of}
+use Rattle.np_top.specs.Commands.{Command, check, atoms, synth, ipsec, trace, show, notes, gen, command_of}
 use Rattle.np_top.specs.Report.{usage_text, verdicts_status}
 use Rattle.np_goals.specs.declared.verdicts.Verdict.{Verdict}
 use Rattle.np_report.specs.Verdicts.{all_hold}
 use Rattle.np_load.specs.Inputs.{Inputs, Play, inputs_of, play_of}
+use Rattle.np_load.specs.Noting.{Noted, noted_of}
 use Rattle.np_load.specs.Saying.{net_says}
 use Rattle.np_top.specs.Outcome.{IsAnswer, IsAnswerTo, IsCheckReportOn, IsAtomsReportOn, IsSynthesisReportOn, IsTraceReportOn, HasFiles, ReadsFiles, AreOfFiles, IsAccepted, AcceptsFiles, AreAccepted, IsOutcome, IsDefined, IsMaximalOn, IsMaximalFor, IsMaximalOutcome, IsTrajectoryOn, IsTrajectoryFor, IsTrajectoryOutcome, IsSafeOn, IsSafeFor, IsSafeOutcome, IsOneOutcome}
 use Rattle.np_top.specs.Ipsec.{IsIpsecReport}
+use Rattle.np_top.specs.Notes.{notes_status, IsNotesReport}
 use Rattle.np_top.specs.Show.{IsCanonical}
 use Rattle.np_top.specs.Status.{IsReport, IsSettled, IsUnlessFault}
 use Rattle.np_top.specs.Written.{Took, TookPrefix}
@@ -25,6 +27,9 @@ use Rattle.np_top.proofs.TraceLaws.{one_trace_report, play_fits, trace_is_trajec
 
 one_canonical : (net : Plan) (s t : List ℕ) (x y : Status) → IsCanonical net s x → IsCanonical net t y → Same s x t y
 one_canonical net s t x y a b = (a.0 ∙ sym b.0, a.1 ∙ sym b.1)
+
+one_notes_report : (noted : Noted) (s t : List ℕ) (x y : Status) → IsNotesReport noted s x → IsNotesReport noted t y → Same s x t y
+one_notes_report noted s t x y a b = (a.0 ∙ sym b.0, a.1 ∙ sym b.1)
 
 one_answer : {X : Type 0} (Is : X → List ℕ → Status → Type 0) → ((z : X) (s t : List ℕ) (x y : Status) → Is z s x → Is z t y → Same s x t y) →
     (says : Option (Result X (List ℕ))) (s t : List ℕ) (x y : Status) → IsAnswer Is says s x → IsAnswer Is says t y → Same s x t y
@@ -43,6 +48,7 @@ one_answer_to files (ipsec file) s t x y a b = one_answer IsIpsecReport one_ipse
 one_answer_to files (trace file script) s t x y a b =
     one_answer IsTraceReportOn (λ play s t x y a b. one_trace_report play.net play.script s t x y a b) (play_of files file script) s t x y a b
 one_answer_to files (show file) s t x y a b = one_answer IsCanonical one_canonical (net_says files file) s t x y a b
+one_answer_to files (notes file) s t x y a b = one_answer IsNotesReport one_notes_report (noted_of files file) s t x y a b
 one_answer_to files (gen seed) s t x y a b = one_gen_report seed s t x y a b
 
 -- two outcomes of the same words and files are the same text and status
@@ -65,6 +71,7 @@ has_files files (synth file) text status answer = defined_by IsSynthesisReportOn
 has_files files (ipsec file) text status answer = defined_by IsIpsecReport (net_says files file) text status answer
 has_files files (trace file script) text status answer = defined_by IsTraceReportOn (play_of files file script) text status answer
 has_files files (show file) text status answer = defined_by IsCanonical (net_says files file) text status answer
+has_files files (notes file) text status answer = defined_by IsNotesReport (noted_of files file) text status answer
 has_files files (gen seed) text status answer = tt
 
 -- an outcome needs its files
@@ -138,6 +145,10 @@ verdicts_reported verdicts = by (all_hold verdicts) where
   by true = tt
   by false = tt
 
+notes_reported : (clean : Bool) → IsReport (notes_status clean)
+notes_reported true = tt
+notes_reported false = tt
+
 answer_reported : {X : Type 0} (Is : X → List ℕ → Status → Type 0) → ((x : X) (text : List ℕ) (status : Status) → Is x text status → IsReport status) →
     (says : Option (Result X (List ℕ))) (text : List ℕ) (status : Status) → IsAccepted says → IsAnswer Is says text status → IsReport status
 answer_reported Is reported None text status accepted is = absurd accepted
@@ -157,6 +168,8 @@ reported files (trace file script) text status accepted is =
     answer_reported IsTraceReportOn (λ play text status is. trace_reported play.net play.script text status is) (play_of files file script) text status accepted is
 reported files (show file) text status accepted is =
     answer_reported IsCanonical (λ net text status is. subst IsReport (sym is.1) tt) (net_says files file) text status accepted is
+reported files (notes file) text status accepted is =
+    answer_reported IsNotesReport (λ noted text status is. subst IsReport (sym is.1) (notes_reported noted.clean)) (noted_of files file) text status accepted is
 reported files (gen seed) text status accepted is = subst IsReport (sym is.summary.status_is) (verdicts_reported is.summary.verdicts)
 
 accepted_there : {X : Type 0} (says : Option (Result X (List ℕ))) → IsAccepted says → IsSome says
@@ -171,6 +184,7 @@ accepted_files files (synth file) accepted = accepted_there (inputs_of files fil
 accepted_files files (ipsec file) accepted = accepted_there (net_says files file) accepted
 accepted_files files (trace file script) accepted = accepted_there (play_of files file script) accepted
 accepted_files files (show file) accepted = accepted_there (net_says files file) accepted
+accepted_files files (notes file) accepted = accepted_there (noted_of files file) accepted
 accepted_files files (gen seed) accepted = tt
 
 -- the outcome of a command whose files are accepted
@@ -213,6 +227,7 @@ maximal_for files (synth file) text answer = maximal_on (inputs_of files file) t
 maximal_for files (ipsec file) text answer = tt
 maximal_for files (trace file script) text answer = tt
 maximal_for files (show file) text answer = tt
+maximal_for files (notes file) text answer = tt
 maximal_for files (gen seed) text answer = tt
 
 -- what is written whole with this status is such a text
@@ -246,6 +261,7 @@ trajectory_for files (synth file) text status report answer = tt
 trajectory_for files (ipsec file) text status report answer = tt
 trajectory_for files (trace file script) text status report answer = trajectory_on (play_of files file script) text status (play_fits files file script) report answer
 trajectory_for files (show file) text status report answer = tt
+trajectory_for files (notes file) text status report answer = tt
 trajectory_for files (gen seed) text status report answer = tt
 
 -- what is written whole with such a status is such a text
@@ -274,6 +290,7 @@ safe_for files (synth file) text status report answer = tt
 safe_for files (ipsec file) text status report answer = safe_on (net_says files file) text status report answer
 safe_for files (trace file script) text status report answer = tt
 safe_for files (show file) text status report answer = tt
+safe_for files (notes file) text status report answer = tt
 safe_for files (gen seed) text status report answer = tt
 
 -- what is written whole with such a status is such a text

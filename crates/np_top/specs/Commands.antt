@@ -13,6 +13,7 @@ pub data Command : Type 0 where
   ipsec : List ℕ → Command
   trace : List ℕ → List ℕ → Command
   show : List ℕ → Command
+  notes : List ℕ → Command
   gen : ℕ → Command
 
 -- a command as the program holds it; how many workers there are has no part in what it is
@@ -23,6 +24,7 @@ command_in (variants.Synth file) = synth file.now
 command_in (variants.Ipsec file) = ipsec file.now
 command_in (variants.Trace file script) = trace file.now script.now
 command_in (variants.Show file) = show file.now
+command_in (variants.Notes file) = notes file.now
 command_in (variants.Gen seed workers) = gen seed
 
 -- the seed that a word says, 0 to 4294967295
@@ -45,7 +47,8 @@ command_on word second =
     (if bytes_eq word (codes "synth") then Some (synth second) else
     (if bytes_eq word (codes "ipsec") then Some (ipsec second) else
     (if bytes_eq word (codes "show") then Some (show second) else
-    (if bytes_eq word (codes "gen") then option_map gen (seed_of second) else None)))))
+    (if bytes_eq word (codes "notes") then Some (notes second) else
+    (if bytes_eq word (codes "gen") then option_map gen (seed_of second) else None))))))
 
 -- the command of these three words
 abbrev pub command_on_both : List ℕ → List ℕ → List ℕ → Option Command

@@ -4,13 +4,15 @@ use Rattle.std.specs.String.{string_bytes}
 use Rattle.std.specs.declared.alloc.Global.{Global}
 use Rattle.np_outside.specs.Files.{Files}
 use Rattle.np_load.specs.Inputs.{Inputs, Play, inputs_of, play_of}
+use Rattle.np_load.specs.Noting.{noted_of}
 use Rattle.np_load.specs.Saying.{net_says}
 use Rattle.np_net.specs.Plan.{Plan}
 use Rattle.np_top.specs.declared.status.Status.{Status}
 use Rattle.np_top.specs.declared.status.Status.TheVariants.{Usage, Refused}
-use Rattle.np_top.specs.Commands.{Command, check, atoms, synth, ipsec, trace, show, gen, command_of}
+use Rattle.np_top.specs.Commands.{Command, check, atoms, synth, ipsec, trace, show, notes, gen, command_of}
 use Rattle.np_top.specs.Report.{usage_text, IsCheckReport, IsAtomsReport}
 use Rattle.np_top.specs.Generated.{IsGenReport}
+use Rattle.np_top.specs.Notes.{IsNotesReport}
 use Rattle.np_top.specs.Show.{IsCanonical}
 use Rattle.np_top.specs.Synthesis.{IsSynthesisReport, IsMaximalText}
 use Rattle.np_top.specs.Ipsec.{IsIpsecReport, IsSafeText}
@@ -46,6 +48,7 @@ IsAnswerTo files (synth file) text status = IsAnswer IsSynthesisReportOn (inputs
 IsAnswerTo files (ipsec file) text status = IsAnswer IsIpsecReport (net_says files file) text status
 IsAnswerTo files (trace file script) text status = IsAnswer IsTraceReportOn (play_of files file script) text status
 IsAnswerTo files (show file) text status = IsAnswer IsCanonical (net_says files file) text status
+IsAnswerTo files (notes file) text status = IsAnswer IsNotesReport (noted_of files file) text status
 IsAnswerTo files (gen seed) text status = IsGenReport seed text status
 
 -- each file that a command needs is there, up to the first one that is refused
@@ -56,6 +59,7 @@ HasFiles files (synth file) = IsSome (inputs_of files file)
 HasFiles files (ipsec file) = IsSome (net_says files file)
 HasFiles files (trace file script) = IsSome (play_of files file script)
 HasFiles files (show file) = IsSome (net_says files file)
+HasFiles files (notes file) = IsSome (noted_of files file)
 HasFiles files (gen seed) = Unit {0}
 
 -- a command that reads a file
@@ -66,6 +70,7 @@ ReadsFiles (synth file) = Unit {0}
 ReadsFiles (ipsec file) = Unit {0}
 ReadsFiles (trace file script) = Unit {0}
 ReadsFiles (show file) = Unit {0}
+ReadsFiles (notes file) = Unit {0}
 ReadsFiles (gen seed) = ⊥
 
 -- The text and the status are the outcome of these words and files. There is none where a file that is needed isn't there.
@@ -95,6 +100,7 @@ AcceptsFiles files (synth file) = IsAccepted (inputs_of files file)
 AcceptsFiles files (ipsec file) = IsAccepted (net_says files file)
 AcceptsFiles files (trace file script) = IsAccepted (play_of files file script)
 AcceptsFiles files (show file) = IsAccepted (net_says files file)
+AcceptsFiles files (notes file) = IsAccepted (noted_of files file)
 AcceptsFiles files (gen seed) = Unit {0}
 
 -- The words fit a command, and all its files are there, within their limit and in their grammars.
@@ -115,6 +121,7 @@ IsMaximalFor files (synth file) text = IsMaximalOn (inputs_of files file) text
 IsMaximalFor files (ipsec file) text = Unit {0}
 IsMaximalFor files (trace file script) text = Unit {0}
 IsMaximalFor files (show file) text = Unit {0}
+IsMaximalFor files (notes file) text = Unit {0}
 IsMaximalFor files (gen seed) text = Unit {0}
 
 -- Where the words are those of a synthesis, the text is that of a maximal posture.
@@ -135,6 +142,7 @@ IsTrajectoryFor files (synth file) text = Unit {0}
 IsTrajectoryFor files (ipsec file) text = Unit {0}
 IsTrajectoryFor files (trace file script) text = IsTrajectoryOn (play_of files file script) text
 IsTrajectoryFor files (show file) text = Unit {0}
+IsTrajectoryFor files (notes file) text = Unit {0}
 IsTrajectoryFor files (gen seed) text = Unit {0}
 
 -- Where the words are those of a replay, the text is that of a trajectory.
@@ -155,6 +163,7 @@ IsSafeFor files (synth file) text = Unit {0}
 IsSafeFor files (ipsec file) text = IsSafeOn (net_says files file) text
 IsSafeFor files (trace file script) text = Unit {0}
 IsSafeFor files (show file) text = Unit {0}
+IsSafeFor files (notes file) text = Unit {0}
 IsSafeFor files (gen seed) text = Unit {0}
 
 -- Where the words ask about IPsec goals, each yes is safe.

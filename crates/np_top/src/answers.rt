@@ -22,7 +22,7 @@ ghost use Rattle.np_top.specs.Commands.{command_in};
 ghost use Rattle.np_load.specs.declared.halt.Halt.{Halt as Ended};
 ghost use Rattle.np_load.specs.declared.halt.Halt.TheVariants as halts;
 ghost use Rattle.np_load.specs.Keeping.{KeepsShelf};
-ghost use Rattle.np_load.specs.Loading.{inputs_in, play_in};
+ghost use Rattle.np_load.specs.Loading.{inputs_in, noted_in, play_in};
 ghost use Rattle.np_top.specs.Replying.{Replies};
 ghost use Rattle.np_top.specs.Generated.{IsGenReport, IsSummaryReport};
 ghost use Rattle.np_top.specs.Outcome.{IsAnswerTo, IsAtomsReportOn, IsCheckReportOn, IsSynthesisReportOn, IsTraceReportOn, HasFiles, ReadsFiles};
@@ -31,12 +31,13 @@ ghost use Rattle.np_top.specs.Synthesis.{IsSynthesisReport};
 ghost use Rattle.np_top.specs.Trace.{IsTraceReport};
 ghost use Rattle.np_script.specs.Fitting.{Fits};
 ghost use Rattle.np_top.specs.Show.{IsCanonical};
+ghost use Rattle.np_top.specs.Notes.{IsNotesReport};
 ghost use Rattle.np_top.specs.Status.{IsSettled};
 
 use crate::commands::Command;
 use crate::report::{
-    Answer, answers_report, atoms_report, canonical, chosen_report, replay_report, summary_report,
-    unattainable_report, verdicts_report,
+    Answer, answers_report, atoms_report, canonical, chosen_report, notes_report, replay_report,
+    summary_report, unattainable_report, verdicts_report,
 };
 use crate::status::Status;
 use np_acl_read::Config;
@@ -49,7 +50,7 @@ use np_generated::{GeneratedInputs, read_generated};
 use np_goals::{Case, Gate, case_of, judge_par};
 use np_ipgoals::{Findings, findings, ipsec_cuts};
 use np_ipsec_report::IpAnswer;
-use np_load::{Halt, Inputs, Play, load_inputs, load_net, load_play};
+use np_load::{Halt, Inputs, Noted, Play, load_inputs, load_net, load_notes, load_play};
 use np_net::{IpGoal, Network};
 use np_outside::Shelf;
 use np_script::Script;
@@ -347,6 +348,14 @@ fn show(alloc: Global, net: Network) -> Result<Answer, AllocError>
     Ok(canonical(alloc, &net)?)
 }
 
+/// The answer to `notes`: what the readings of the configurations passed over and may matter.
+fn notes(noted: Noted) -> Result<Answer, AllocError>
+    ensures report { IfOk result (λ answer. IsNotesReport (noted_in noted) answer.text answer.status) }
+    ensures settled { IfOk result (λ answer. IsSettled answer.status × (answer.status ≢ Status.Usage)) }
+{
+    Ok(notes_report(noted)?)
+}
+
 /// The answer to a command over files that are not refused.
 fn answer<R: Threads + Sync, G: Atomizer, S: Shelf, T: Gate + Sync>(
     rt: &R,
@@ -389,6 +398,10 @@ fn answer<R: Threads + Sync, G: Atomizer, S: Shelf, T: Gate + Sync>(
         Command::Show(file) => {
             let net = load_net(alloc, shelf, file)?;
             Ok(show(alloc, net)?)
+        }
+        Command::Notes(file) => {
+            let noted = load_notes(alloc, shelf, file)?;
+            Ok(notes(noted)?)
         }
         Command::Gen(seed, workers) => Ok(generated(rt, alloc, store, seed, workers, gate)?),
     }

@@ -30,6 +30,9 @@ pub enum Command<'a> {
     /// `show NET`
     Show(&'a [u8]),
 
+    /// `notes NET`
+    Notes(&'a [u8]),
+
     /// `gen NUMBER [WORKERS]`
     Gen(u32, usize),
 }
@@ -88,6 +91,7 @@ fn command_on<'a>(word: &str, second: &'a [u8]) -> Option<Command<'a>>
         "synth" => Some(Command::Synth(second)),
         "ipsec" => Some(Command::Ipsec(second)),
         "show" => Some(Command::Show(second)),
+        "notes" => Some(Command::Notes(second)),
         "gen" => gen_on(second, 1),
         _ => None,
     }

@@ -12,6 +12,8 @@ ghost use Rattle.np_traj.specs.States.{IsStateOf};
 ghost use Rattle.np_ipsec_report.specs.Answers.{answers_text, HasPlaces};
 ghost use Rattle.np_ipsec_report.specs.Answers as answer_texts;
 ghost use Rattle.np_ipsec_report.specs.Replays.{replay_text};
+ghost use Rattle.np_load.specs.Loading.{noted_in};
+ghost use Rattle.np_top.specs.Notes.{IsNotesReport, last_line};
 ghost use Rattle.np_top.specs.Report.{verdicts_status};
 ghost use Rattle.np_top.specs.Trace.{replay_status};
 
@@ -22,6 +24,7 @@ use np_conf::Answer as ConfAnswer;
 use np_cut::Applied;
 use np_goals::Verdict;
 use np_ipsec_report::{IpAnswer, put_answers, put_replay};
+use np_load::Noted;
 use np_net::{Network, Path};
 use np_net_text::put_net;
 use np_report::{put_atoms, put_chosen, put_summary, put_unattainable, put_verdicts};
@@ -113,6 +116,30 @@ pub fn verdicts_report(
     Ok(Answer {
         text: Items::from_vec(text),
         status: verdicts_status(verdicts),
+    })
+}
+
+/// The last line of a report on notes: whether there is none.
+fn last_line(clean: bool) -> &'static [u8]
+    ensures { result.now ≡ last_line clean }
+{
+    if clean { b"clean\n" } else { b"notes\n" }
+}
+
+/// The report on notes.
+pub fn notes_report(noted: Noted) -> Result<Answer, AllocError>
+    ensures { IfOk result (λ answer. IsNotesReport (noted_in noted) answer.text answer.status) }
+{
+    let Noted { mut text, clean } = noted;
+    text.extend_from_slice(last_line(clean))?;
+    let status = if clean {
+        Status::Holds
+    } else {
+        Status::Fails
+    };
+    Ok(Answer {
+        text: Items::from_vec(text),
+        status,
     })
 }
 

@@ -181,6 +181,8 @@ pub fn run_in<R: Threads + Sync, G: Atomizer, S: Shelf, K: Sink, T: Gate + Sync>
 /// `trace NET SCRIPT` reads the file NET and then the file SCRIPT, and writes what becomes of the script's packet: its states as
 /// far as its moves are legal, why one isn't, and which IPsec goals are broken.
 /// `show NET` reads the file NET, and writes the canonical text of the network that it declares.
+/// `notes NET` reads the files that `check NET` reads, and writes what the reading of each configuration passed over and may
+/// matter, a line for each; its last line is `clean` where there is nothing.
 /// `gen NUMBER` and `gen NUMBER WORKERS` read no file, and write the summary of the report on the network of the seed
 /// NUMBER, from 0 to 4,294,967,295: its sizes, how many atoms its filter cuts have, how many goals are violated, and how
 /// many hops the report has. WORKERS is as for `check`.

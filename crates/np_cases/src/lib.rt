@@ -16,6 +16,8 @@ mod ipsec;
 #[cfg(test)]
 mod networks;
 #[cfg(test)]
+mod notes;
+#[cfg(test)]
 mod refusals;
 #[cfg(test)]
 mod runs;

@@ -24,6 +24,8 @@ mod judging;
 #[cfg(test)]
 mod networks;
 #[cfg(test)]
+mod notes;
+#[cfg(test)]
 mod refusals;
 #[cfg(test)]
 mod runs;

@@ -3,3 +3,4 @@ pub mod Keeping
 pub mod Saying
 pub mod Inputs
 pub mod Loading
+pub mod Noting

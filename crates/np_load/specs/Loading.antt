@@ -1,5 +1,8 @@
 -- What loading gives, beside what files say.
-use Rattle.std.specs.Prelude.{◌≡◌, ℕ, List, Option, Some, Result, Ok, Err}
+use Rattle.std.specs.Prelude.{◌≡◌, ℕ, ◌+◌, List, [], ◌∷◌, Option, Some, Result, Ok, Err}
+use Rattle.np_outside.specs.Files.{Files}
+use Rattle.np_net.specs.Plan.{Plan}
+use Rattle.np_net.specs.declared.filtering.Device.{Device}
 use Rattle.np_lines.specs.declared.fault.LineFault.{LineFault}
 use Rattle.np_lines.specs.declared.text_error.TextError.{TextError}
 use Rattle.np_lines.specs.declared.text_error.TextError.TheVariants as unread
@@ -8,8 +11,11 @@ use Rattle.np_report.specs.Refusals.{refusal_text}
 use Rattle.np_load.specs.declared.halt.Halt.{Halt}
 use Rattle.np_load.specs.declared.halt.Halt.TheVariants as halts
 use Rattle.np_load.specs.declared.inputs.Inputs as loaded
+use Rattle.np_load.specs.declared.noted.Noted as gathered
 use Rattle.np_load.specs.declared.plays.Play as played
-use Rattle.np_load.specs.Inputs.{Inputs, Play}
+use Rattle.np_load.specs.Inputs.{Inputs, Play, device_says}
+use Rattle.np_load.specs.Noting.{Noted, device_noted, noted_after, nothing}
+use Rattle.np_load.specs.Saying.{and_then}
 
 -- what was loaded is what is said, and a refusal is the one that is said; a fault and want of memory say nothing
 abbrev pub LoadsAs : {X Y : Type 0} → (X → Y) → Result X Halt → Option (Result Y (List ℕ)) → Type 0
@@ -34,3 +40,17 @@ play_in play = record { net = play.net; script = play.script }
 abbrev pub HaltsBy : {W : Type 0} → (LineFault W → Refusal) → List ℕ → TextError W → Halt → Type 0
 HaltsBy why file (unread.Fault fault) halt = halt ≡ halts.Refused (refusal_text file (why fault))
 HaltsBy why file (unread.Memory e) halt = halt ≡ halts.Memory
+
+-- notes as the program holds them
+abbrev pub noted_in : gathered.Noted → Noted
+noted_in noted = record { text = noted.text.items; clean = noted.clean }
+
+-- the notes on the configuration of a device, which has this number, where it is accepted
+abbrev pub device_notes_say : Files → Plan → ℕ → Device → Option (Result Noted (List ℕ))
+device_notes_say files net n device = and_then (device_says files device) (λ config. Some (Ok (device_noted files net n device)))
+
+-- the notes on the configurations of devices, of which the first has this number, up to the first one that is refused
+abbrev pub notes_say : Files → Plan → ℕ → List Device → Option (Result Noted (List ℕ))
+notes_say files net n [] = Some (Ok nothing)
+notes_say files net n (device ∷ devices) =
+    and_then (device_notes_say files net n device) (λ one. and_then (notes_say files net (n + 1) devices) (λ more. Some (Ok (noted_after one more))))

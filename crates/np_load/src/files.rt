@@ -36,7 +36,11 @@ fn refused(alloc: Global, file: &[u8], why: &Refusal) -> Result<Halt, AllocError
 }
 
 /// The bytes of a file that isn't too long.
-fn load_bytes<S: Shelf>(alloc: Global, shelf: &mut S, file: &[u8]) -> Result<Vec<u8>, Halt>
+pub(crate) fn load_bytes<S: Shelf>(
+    alloc: Global,
+    shelf: &mut S,
+    file: &[u8],
+) -> Result<Vec<u8>, Halt>
     ensures ok { IfOk result (λ bytes. (files : Files) → S.files shelf.old ≡ Some files → get files file.now ≡ Some bytes.items) }
     ensures within { IfOk result (λ bytes. vec_len bytes ≤ file_limit) }
     ensures refused { (text : List ℕ) → IsErrOf result (Halt.Refused text) → (files : Files) → S.files shelf.old ≡ Some files →
@@ -66,7 +70,11 @@ fn net_halt(alloc: Global, file: &[u8], error: NetError) -> Result<Halt, AllocEr
 }
 
 /// Why a text is no configuration: its fault as the line that is written.
-fn config_halt(alloc: Global, file: &[u8], error: ConfigError) -> Result<Halt, AllocError>
+pub(crate) fn config_halt(
+    alloc: Global,
+    file: &[u8],
+    error: ConfigError,
+) -> Result<Halt, AllocError>
     ensures { IfOk result (λ halt. HaltsBy refusals.Config file.now error halt) }
 {
     match error {

@@ -4,9 +4,11 @@
 mod files;
 mod halt;
 mod inputs;
+mod noted;
 mod plays;
 
 pub use files::load_net;
 pub use halt::Halt;
 pub use inputs::{Inputs, load_inputs};
+pub use noted::{Noted, load_notes};
 pub use plays::{Play, load_play};

@@ -1,0 +1,131 @@
+-- The notes of one device after another.
+use Rattle.std.proofs.Common.{◌≡◌, ℕ, ◌+◌, Bool, true, false, List, [], ◌∷◌, ◌++◌, append_assoc, append-nil, arith, length, Option, Some, None, Result, Ok, Err, refl, sym, ap, ◌∙◌}
+use Rattle.std.specs.Prelude.{◌≤◌, ◌&&◌, nat_lt, IsSome}
+use Rattle.std.specs.FinMap.{get}
+use Rattle.std.proofs.lemmas.Bool.Decides.{nat_tests}
+use Rattle.np_outside.specs.Files.{Files}
+use Rattle.np_acl_read.specs.declared.config.Config.{Config}
+use Rattle.np_acl_read.specs.Reading.{config_of}
+use Rattle.np_net.specs.Plan.{Plan}
+use Rattle.np_net.specs.declared.filtering.Device.{Device}
+use Rattle.np_notes.specs.NameNotes.{interfaces_of}
+use Rattle.np_notes.specs.Notes.{notes_of}
+use Rattle.np_load.specs.declared.halt.Halt.{Halt}
+use Rattle.np_load.specs.declared.halt.Halt.TheVariants as halts
+use Rattle.np_load.specs.declared.noted.Noted as gathered
+use Rattle.np_load.specs.Inputs.{Inputs, configs_say, device_says}
+use Rattle.np_load.specs.Loading.{Loads, LoadsAs, device_notes_say, noted_in, notes_say}
+use Rattle.np_load.specs.Limits.{file_limit}
+use Rattle.np_load.specs.Noting.{Noted, device_noted, devices_noted, file_noted, noted_after, noted_in_file, noted_of, nothing}
+use Rattle.np_load.specs.Saying.{and_then, config_says, net_says}
+
+-- what is said with these notes in front
+abbrev pub behind_noted : Noted → Option (Result Noted (List ℕ)) → Option (Result Noted (List ℕ))
+behind_noted front says = and_then says (λ more. Some (Ok (noted_after front more)))
+
+and_assoc : (a b c : Bool) → ((a && b) && c) ≡ (a && (b && c))
+and_assoc true b c = refl
+and_assoc false b c = refl
+
+and_true : (b : Bool) → (b && true) ≡ b
+and_true true = refl
+and_true false = refl
+
+after_assoc : (one two three : Noted) → noted_after (noted_after one two) three ≡ noted_after one (noted_after two three)
+after_assoc one two three = (λ i. record { text = append_assoc one.text two.text three.text i; clean = and_assoc one.clean two.clean three.clean i })
+
+after_none : (one : Noted) → noted_after one nothing ≡ one
+after_none one = (λ i. record { text = append-nil one.text i; clean = and_true one.clean i })
+
+-- nothing in front
+pub none_behind : (says : Option (Result Noted (List ℕ))) → behind_noted nothing says ≡ says
+none_behind None = refl
+none_behind (Some (Err text)) = refl
+none_behind (Some (Ok noted)) = refl
+
+-- one device more is read, and the same is said
+pub one_more_noted : (files : Files) (net : Plan) (n : ℕ) (front more all : Noted) (device : Device) (rest : List Device) → all ≡ noted_after front more → device_notes_say files net n device ≡ Some (Ok more) →
+    behind_noted all (notes_say files net (n + 1) rest) ≡ behind_noted front (notes_say files net n (device ∷ rest))
+one_more_noted files net n front more all device rest is says =
+    ap (λ a. behind_noted a (notes_say files net (n + 1) rest)) is
+    ∙ by (notes_say files net (n + 1) rest)
+    ∙ ap (λ said. behind_noted front (and_then said (λ one. and_then (notes_say files net (n + 1) rest) (λ left. Some (Ok (noted_after one left)))))) (sym says)
+  where
+    by : (said : Option (Result Noted (List ℕ))) → behind_noted (noted_after front more) said ≡ behind_noted front (and_then said (λ left. Some (Ok (noted_after more left))))
+    by None = refl
+    by (Some (Err text)) = refl
+    by (Some (Ok left)) = ap (λ noted. Some (Ok noted)) (after_assoc front more left)
+
+-- no device is left
+pub all_noted : (files : Files) (net : Plan) (n : ℕ) (front : Noted) (rest : List Device) (says : Option (Result Noted (List ℕ))) → rest ≡ [] → behind_noted front (notes_say files net n rest) ≡ says → says ≡ Some (Ok front)
+all_noted files net n front rest says none whole =
+    sym whole ∙ ap (λ ds. behind_noted front (notes_say files net n ds)) none ∙ ap (λ noted. Some (Ok noted)) (after_none front)
+
+-- the devices' notes are those of their configurations, where these are accepted
+notes_said : (files : Files) (net : Plan) (n : ℕ) (devices : List Device) → notes_say files net n devices ≡ and_then (configs_say files devices) (λ configs. Some (Ok (devices_noted files net n devices)))
+notes_said files net n [] = refl
+notes_said files net n (device ∷ devices) =
+    (λ i. and_then (device_notes_say files net n device) (λ one. and_then (notes_said files net (n + 1) devices i) (λ more. Some (Ok (noted_after one more)))))
+    ∙ by (device_says files device) (configs_say files devices)
+  where
+    one : Noted
+    one = device_noted files net n device
+
+    more : Noted
+    more = devices_noted files net (n + 1) devices
+
+    by : (first : Option (Result Config (List ℕ))) (others : Option (Result (List Config) (List ℕ))) →
+        and_then (and_then first (λ config. Some (Ok one))) (λ own. and_then (and_then others (λ configs. Some (Ok more))) (λ left. Some (Ok (noted_after own left))))
+        ≡ and_then (and_then first (λ config. and_then others (λ configs. Some (Ok (config ∷ configs))))) (λ configs. Some (Ok (noted_after one more)))
+    by None others = refl
+    by (Some (Err text)) others = refl
+    by (Some (Ok config)) None = refl
+    by (Some (Ok config)) (Some (Err text)) = refl
+    by (Some (Ok config)) (Some (Ok configs)) = refl
+
+-- a network and configurations
+abbrev both : Plan → List Config → Inputs
+both net configs = record { net = net; configs = configs }
+
+-- the notes on the configurations of a network's devices
+abbrev all_of : Files → Plan → Noted
+all_of files net = devices_noted files net 0 net.devices
+
+-- the notes on what all files say, file by file
+noted_by_files : (files : Files) (file : List ℕ) → noted_of files file ≡ and_then (net_says files file) (λ net. notes_say files net 0 net.devices)
+noted_by_files files file = by (net_says files file) where
+  in_net : (net : Plan) (configs : Option (Result (List Config) (List ℕ))) →
+      and_then (and_then configs (λ cs. Some (Ok (both net cs)))) (λ (inputs : Inputs). Some (Ok (all_of files inputs.net))) ≡ and_then configs (λ cs. Some (Ok (all_of files net)))
+  in_net net None = refl
+  in_net net (Some (Err text)) = refl
+  in_net net (Some (Ok cs)) = refl
+
+  by : (said : Option (Result Plan (List ℕ))) →
+      and_then (and_then said (λ net. and_then (configs_say files net.devices) (λ configs. Some (Ok (both net configs))))) (λ (inputs : Inputs). Some (Ok (all_of files inputs.net)))
+      ≡ and_then said (λ net. notes_say files net 0 net.devices)
+  by None = refl
+  by (Some (Err text)) = refl
+  by (Some (Ok net)) = in_net net (configs_say files net.devices) ∙ sym (notes_said files net 0 net.devices)
+
+-- ---- what is loaded
+
+-- once the network is read, the notes on its devices' configurations are those on all files
+pub noted_in_net : (files : Files) (file : List ℕ) (net : Plan) (result : Result gathered.Noted Halt) → net_says files file ≡ Some (Ok net) → LoadsAs noted_in result (notes_say files net 0 net.devices) → LoadsAs noted_in result (noted_of files file)
+noted_in_net files file net result says noted = rw (noted_by_files files file, says) noted
+
+-- and each file is there exactly where they say so
+pub some_in_net : (files : Files) (file : List ℕ) (net : Plan) → net_says files file ≡ Some (Ok net) → IsSome (noted_of files file) → IsSome (notes_say files net 0 net.devices)
+some_in_net files file net says some = rw says at (rw (noted_by_files files file) at some)
+
+-- a file that isn't too long and is accepted, and the notes on it
+pub accepted_says : (files : Files) (net : Plan) (n : ℕ) (file bytes : List ℕ) (config : Config) (noted : Noted) → get files file ≡ Some bytes → length bytes ≤ file_limit → config_of bytes ≡ Ok config →
+    noted ≡ noted_in_file file (notes_of (interfaces_of net n) bytes) → and_then (config_says files file) (λ config. Some (Ok (file_noted files net n file))) ≡ Some (Ok noted)
+accepted_says files net n file bytes config noted there within reading is = rw (there, not_longer file_limit (length bytes) within, reading) (ap (λ own. Some (Ok own)) (sym is)) where
+  not_longer : (limit count : ℕ) → count ≤ limit → nat_lt limit count ≡ false
+  not_longer limit count within = grind (arith, nat_tests)
+
+-- a halt at a file is a halt of what comes after it
+pub halt_first : {X Y Z : Type 0} (shown : Z → Y) (halt : Halt) (says : Option (Result X (List ℕ))) (next : X → Option (Result Y (List ℕ))) → Loads {X = X} (Err halt) says → LoadsAs shown (Err halt) (and_then says next)
+halt_first shown (halts.Refused text) says next refused = ap (λ s. and_then s next) refused
+halt_first shown halts.ReadFault says next refused = tt
+halt_first shown halts.Memory says next refused = tt

@@ -1,0 +1,180 @@
+//! Reading a run's files, for what the readings of its configurations passed over.
+
+ghost use Rattle.std.specs.Prelude.{◌≡◌, ℕ, ◌++◌, ◌&&◌, ◌<◌, ◌≤◌, Some, Ok, IfOk, IsErrOf, IsSome, OnOk, length};
+ghost use Rattle.np_outside.specs.Counts.{Rose};
+ghost use Rattle.np_outside.specs.Files.{Files};
+ghost use Rattle.np_notes.specs.NameNotes.{interfaces_of};
+ghost use Rattle.np_notes.specs.Notes.{notes_of};
+ghost use Rattle.np_load.specs.declared.halt.Halt.TheVariants as halts;
+ghost use Rattle.np_load.specs.Keeping.{KeepsShelf};
+ghost use Rattle.np_load.specs.Loading.{LoadsAs, device_notes_say, noted_in, notes_say};
+ghost use Rattle.np_load.specs.Noting.{file_noted, is_clean, noted_in_file, noted_of, nothing};
+ghost use Rattle.np_load.specs.Noting as noting;
+ghost use Rattle.np_load.specs.Saying.{and_then, config_says};
+
+use crate::files::{config_halt, load_bytes, load_net};
+use crate::halt::Halt;
+use np_acl_read::read_config;
+use np_net::{DevId, Device, Network};
+use np_notes::{Note, notes};
+use np_outside::Shelf;
+use np_report::put_notes;
+use std::alloc::{AllocError, Global};
+
+/// What the readings of configurations passed over and may matter.
+#[derive(Drop)]
+pub struct Noted {
+    /// A line for each note.
+    pub text: Vec<u8>,
+    /// Whether there is none.
+    pub clean: bool,
+}
+
+/// No notes.
+fn nothing(alloc: Global) -> Noted
+    ensures { noted_in result ≡ nothing }
+{
+    Noted {
+        text: Vec::new(alloc),
+        clean: true,
+    }
+}
+
+/// Whether there is no note.
+fn is_clean(notes: &[Note]) -> bool
+    ensures { result ≡ is_clean notes.now }
+{
+    notes.is_empty()
+}
+
+/// The notes on the configuration in this file, as they are written.
+fn written(alloc: Global, file: &[u8], notes: &[Note]) -> Result<Noted, AllocError>
+    ensures { IfOk result (λ noted. noted_in noted ≡ noted_in_file file.now notes.now) }
+{
+    let mut text = Vec::new(alloc);
+    put_notes(alloc, &mut text, file, notes)?;
+    Ok(Noted {
+        text,
+        clean: is_clean(notes),
+    })
+}
+
+/// The notes on a text, as the configuration of a device.
+fn notes_on(
+    alloc: Global,
+    net: &Network,
+    device: DevId,
+    file: &[u8],
+    text: &[u8],
+) -> Result<Noted, AllocError>
+    ensures { IfOk result (λ noted. noted_in noted ≡ noted_in_file file.now (notes_of (interfaces_of net.now device) text.now)) }
+{
+    let notes = notes(alloc, net, device, text)?;
+    written(alloc, file, notes.as_slice())
+}
+
+/// The notes on the configuration that a file declares for a device.
+fn load_file_notes<S: Shelf>(
+    alloc: Global,
+    shelf: &mut S,
+    net: &Network,
+    device: DevId,
+    file: &[u8],
+) -> Result<Noted, Halt>
+    ensures says { (files : Files) → S.files shelf.old ≡ Some files → LoadsAs noted_in result (and_then (config_says files file.now) (λ config. Some (Ok (file_noted files net.now device file.now)))) }
+
+    ensures failed { IsErrOf result halts.ReadFault → Rose (S.faults shelf.old) (S.faults shelf.new) }
+    ensures broken { IsErrOf result halts.ReadFault → (files : Files) → S.files shelf.old ≡ Some files →
+        IsSome (config_says files file.now) → Rose (S.breaks shelf.old) (S.breaks shelf.new) }
+    ensures kept { KeepsShelf S.files S.cap S.faults S.breaks shelf.old shelf.new }
+{
+    let bytes = load_bytes(alloc, shelf, file)?;
+    match read_config(alloc, bytes.as_slice()) {
+        Ok(_) => Ok(notes_on(alloc, net, device, file, bytes.as_slice())?),
+        Err(error) => Err(config_halt(alloc, file, error)?),
+    }
+}
+
+/// The notes on a device's configuration; none without a file.
+fn load_device_notes<S: Shelf>(
+    alloc: Global,
+    shelf: &mut S,
+    net: &Network,
+    n: DevId,
+    device: &Device,
+) -> Result<Noted, Halt>
+    ensures says { (files : Files) → S.files shelf.old ≡ Some files → LoadsAs noted_in result (device_notes_say files net.now n device.now) }
+
+    ensures failed { IsErrOf result halts.ReadFault → Rose (S.faults shelf.old) (S.faults shelf.new) }
+    ensures broken { IsErrOf result halts.ReadFault → (files : Files) → S.files shelf.old ≡ Some files →
+        IsSome (device_notes_say files net.now n device.now) → Rose (S.breaks shelf.old) (S.breaks shelf.new) }
+    ensures kept { KeepsShelf S.files S.cap S.faults S.breaks shelf.old shelf.new }
+{
+    match &device.config {
+        Some(file) => load_file_notes(alloc, shelf, net, n, file.bytes()),
+        None => Ok(nothing(alloc)),
+    }
+}
+
+impl Noted {
+    /// Adds other notes after these.
+    fn add(&mut self, more: Noted) -> Result<(), AllocError>
+        ensures { OnOk result (noted_in self.new ≡ noting.noted_after (noted_in self.old) (noted_in more)) }
+    {
+        self.text.extend_from_slice(more.text.as_slice())?;
+        self.clean = self.clean && more.clean;
+        Ok(())
+    }
+}
+
+/// The notes on the configurations of the devices, in their order.
+fn load_each_notes<S: Shelf>(
+    alloc: Global,
+    shelf: &mut S,
+    net: &Network,
+    devices: &[Device],
+) -> Result<Noted, Halt>
+    requires { length devices.now ≤ 256 }
+    ensures says { (files : Files) → S.files shelf.old ≡ Some files → LoadsAs noted_in result (notes_say files net.now 0 devices.now) }
+
+    ensures failed { IsErrOf result halts.ReadFault → Rose (S.faults shelf.old) (S.faults shelf.new) }
+    ensures broken { IsErrOf result halts.ReadFault → (files : Files) → S.files shelf.old ≡ Some files →
+        IsSome (notes_say files net.now 0 devices.now) → Rose (S.breaks shelf.old) (S.breaks shelf.new) }
+    ensures kept { KeepsShelf S.files S.cap S.faults S.breaks shelf.old shelf.new }
+{
+    let mut noted = nothing(alloc);
+    for n in 0..devices.len() {
+        let more = load_device_notes(alloc, shelf, net, n as DevId, &devices[n])?;
+        noted.add(more)?;
+    }
+    Ok(noted)
+}
+
+/// The notes on the configurations of a network's devices.
+fn load_all_notes<S: Shelf>(alloc: Global, shelf: &mut S, net: &Network) -> Result<Noted, Halt>
+    ensures says { (files : Files) → S.files shelf.old ≡ Some files → LoadsAs noted_in result (notes_say files net.now 0 net.now.devices) }
+
+    ensures failed { IsErrOf result halts.ReadFault → Rose (S.faults shelf.old) (S.faults shelf.new) }
+    ensures broken { IsErrOf result halts.ReadFault → (files : Files) → S.files shelf.old ≡ Some files →
+        IsSome (notes_say files net.now 0 net.now.devices) → Rose (S.breaks shelf.old) (S.breaks shelf.new) }
+    ensures kept { KeepsShelf S.files S.cap S.faults S.breaks shelf.old shelf.new }
+{
+    load_each_notes(alloc, shelf, net, net.devices.as_slice())
+}
+
+/// Reads the network's file, and then the configuration of each device in the order of the devices,
+/// for what the readings of the configurations passed over and may matter.
+///
+/// It ends as `load_inputs` does, at the first file that is refused or can't be read. One
+/// configuration is kept at a time.
+pub fn load_notes<S: Shelf>(alloc: Global, shelf: &mut S, file: &[u8]) -> Result<Noted, Halt>
+    ensures says { (files : Files) → S.files shelf.old ≡ Some files → LoadsAs noted_in result (noted_of files file.now) }
+
+    ensures failed { IsErrOf result halts.ReadFault → Rose (S.faults shelf.old) (S.faults shelf.new) }
+    ensures broken { IsErrOf result halts.ReadFault → (files : Files) → S.files shelf.old ≡ Some files →
+        IsSome (noted_of files file.now) → Rose (S.breaks shelf.old) (S.breaks shelf.new) }
+    ensures kept { KeepsShelf S.files S.cap S.faults S.breaks shelf.old shelf.new }
+{
+    let net = load_net(alloc, shelf, file)?;
+    load_all_notes(alloc, shelf, &net)
+}

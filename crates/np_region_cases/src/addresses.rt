@@ -7,8 +7,12 @@ use std::alloc::AllocError;
 use std::process::Abort;
 use std::test::Fail;
 
-/// A header from one address to another.
-fn from_to(src: u32, dst: u32) -> Header {
+/// A header with this address at the field, and with another at the other one.
+fn header_at(field: AddressField, address: u32, other: u32) -> Header {
+    let (src, dst) = match field {
+        AddressField::Src => (address, other),
+        AddressField::Dst => (other, address),
+    };
     let mut header = Header::zeros();
     header.src = src;
     header.dst = dst;
@@ -31,32 +35,42 @@ fn addresses() -> [u32; 9] {
     ]
 }
 
-/// The region has the address at the field where it is said to, whatever the other address is, and the
-/// least header is the one with the least address.
+/// Whether the region has each of the addresses beside another one, and its least header.
+fn answers<S: Regions>(
+    store: &mut S,
+    field: AddressField,
+    patterns: &[Ternary],
+    other: u32,
+) -> Result<([bool; 9], Option<Header>), AllocError> {
+    let region = store.of_addresses(field, patterns)?;
+    let mut having = [false; 9];
+    for (has, address) in having.iter_mut().zip(&addresses()) {
+        *has = store.has(&region, &header_at(field, *address, other));
+    }
+    Ok((having, store.least(&region)))
+}
+
+/// The regions of both fields have the addresses that they should, whatever the other address is, and the
+/// least header has the least of them.
 fn compare<R: Abort, S: Regions>(
     rt: &R,
     store: &mut S,
     patterns: &[Ternary],
-    having: &[bool; 9],
+    having: [bool; 9],
     least: Option<u32>,
 ) -> Result<(), Fail> {
-    let sources = store.of_addresses(AddressField::Src, patterns)?;
-    let destinations = store.of_addresses(AddressField::Dst, patterns)?;
-    for (address, has) in addresses().iter().zip(having) {
-        for other in [0, 0xc000_0201] {
-            let h = from_to(*address, other);
-            assert_eq!(rt; store.has(&sources, &h), *has, "{h:?}");
-            let h = from_to(other, *address);
-            assert_eq!(rt; store.has(&destinations, &h), *has, "{h:?}");
-        }
-    }
+    let (src, dst) = (AddressField::Src, AddressField::Dst);
+    let first = least.map(|address| header_at(AddressField::Src, address, 0));
+    assert_eq!(rt; answers(store, src, patterns, 0)?, (having, first));
     assert_eq!(rt;
-        store.least(&sources),
-        least.map(|address| from_to(address, 0))
+        answers(store, src, patterns, 0xc000_0201)?,
+        (having, first)
     );
+    let first = least.map(|address| header_at(AddressField::Dst, address, 0));
+    assert_eq!(rt; answers(store, dst, patterns, 0)?, (having, first));
     assert_eq!(rt;
-        store.least(&destinations),
-        least.map(|address| from_to(0, address))
+        answers(store, dst, patterns, 0xc000_0201)?,
+        (having, first)
     );
     Ok(())
 }
@@ -66,26 +80,26 @@ fn prefixes<R: Abort, S: Regions>(rt: &R, store: &mut S) -> Result<(), Fail> {
     let ten = Ternary::prefix(0x0a00_0000, 8);
     let half = Ternary::prefix(0x0a80_0000, 9);
     let host = Ternary::host(0xc000_0201);
-    compare(rt, store, &[], &[n, n, n, n, n, n, n, n, n], None)?;
+    compare(rt, store, &[], [n, n, n, n, n, n, n, n, n], None)?;
     compare(
         rt,
         store,
         &[host],
-        &[n, n, n, n, n, n, y, n, n],
+        [n, n, n, n, n, n, y, n, n],
         Some(0xc000_0201),
     )?;
     compare(
         rt,
         store,
         &[ten],
-        &[n, n, y, y, n, n, n, n, n],
+        [n, n, y, y, n, n, n, n, n],
         Some(0x0a00_0000),
     )?;
     compare(
         rt,
         store,
         &[half],
-        &[n, n, n, y, n, n, n, n, n],
+        [n, n, n, y, n, n, n, n, n],
         Some(0x0a80_0000),
     )?;
     // in order, out of order, inside one another and repeated
@@ -93,35 +107,35 @@ fn prefixes<R: Abort, S: Regions>(rt: &R, store: &mut S) -> Result<(), Fail> {
         rt,
         store,
         &[ten, host],
-        &[n, n, y, y, n, n, y, n, n],
+        [n, n, y, y, n, n, y, n, n],
         Some(0x0a00_0000),
     )?;
     compare(
         rt,
         store,
         &[host, ten],
-        &[n, n, y, y, n, n, y, n, n],
+        [n, n, y, y, n, n, y, n, n],
         Some(0x0a00_0000),
     )?;
     compare(
         rt,
         store,
         &[half, ten, half],
-        &[n, n, y, y, n, n, n, n, n],
+        [n, n, y, y, n, n, n, n, n],
         Some(0x0a00_0000),
     )?;
     compare(
         rt,
         store,
         &[host, host, host],
-        &[n, n, n, n, n, n, y, n, n],
+        [n, n, n, n, n, n, y, n, n],
         Some(0xc000_0201),
     )?;
     compare(
         rt,
         store,
         &[host, Ternary::any()],
-        &[y, y, y, y, y, y, y, y, y],
+        [y, y, y, y, y, y, y, y, y],
         Some(0),
     )
 }
@@ -135,25 +149,25 @@ fn other_patterns<R: Abort, S: Regions>(rt: &R, store: &mut S) -> Result<(), Fai
         rt,
         store,
         &[high, low],
-        &[n, n, y, y, n, n, n, n, n],
+        [n, n, y, y, n, n, n, n, n],
         Some(0x0a00_0000),
     )?;
     // odd addresses, and those that end with two zeros
     let odd = Ternary::of(1, 0xffff_fffe);
     let fourth = Ternary::of(0, 0xffff_fffc);
-    compare(rt, store, &[odd], &[n, y, n, y, n, n, y, n, y], Some(1))?;
+    compare(rt, store, &[odd], [n, y, n, y, n, n, y, n, y], Some(1))?;
     compare(
         rt,
         store,
         &[odd, fourth],
-        &[y, y, y, y, y, y, y, n, y],
+        [y, y, y, y, y, y, y, n, y],
         Some(0),
     )?;
     compare(
         rt,
         store,
         &[fourth, low],
-        &[y, n, y, n, y, y, n, n, n],
+        [y, n, y, n, y, y, n, n, n],
         Some(0),
     )
 }
@@ -162,9 +176,9 @@ fn other_patterns<R: Abort, S: Regions>(rt: &R, store: &mut S) -> Result<(), Fai
 /// protocol that has types, and one with a code point past the last.
 fn invalid<S: Regions>(store: &mut S) -> Result<[bool; 2], AllocError> {
     let all = store.of_addresses(AddressField::Src, &[Ternary::any()])?;
-    let mut typed = from_to(1, 1);
+    let mut typed = header_at(AddressField::Src, 1, 1);
     typed.a = 3;
-    let mut marked = from_to(1, 1);
+    let mut marked = header_at(AddressField::Src, 1, 1);
     marked.dscp = 64;
     Ok([store.has(&all, &typed), store.has(&all, &marked)])
 }

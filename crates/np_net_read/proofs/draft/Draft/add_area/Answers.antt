@@ -6,5 +6,5 @@ add-requires-clause-new c = rw c.in_ok-copy.ensures (area_unnamed c.args.self.no
 
 pub returns-clause-draft : goal.returns-clause-draft
 returns-clause-draft c =
-    rw (c.in_ok-push.ensures.ok, c.in_ok-add-2.ensures.ok, c.bytes.ensures, c.in_ok-add.ensures.ok, c.in_ok-copy.ensures, c.in_ok-sources.ensures.items, c.as_slice.ensures)
+    rw (c.in_ok-push.ensures.ok, c.in_ok-add-2.ensures.ok, c.bytes.ensures, c.in_ok-add.ensures.ok, c.in_ok-copy.ensures, c.in_ok-sources.ensures, c.as_slice.ensures)
     (draft_area c.args.self.now c.args.area c.requires.draft c.requires.fits)

@@ -13,4 +13,4 @@ loop-area-preserved g c =
     let more : take (i + 1) xs ≡ take i xs ++ c.area-item.result ∷ [] =
     take_more xs i c.area-item.result within ∙ ap (λ x. take i xs ++ x ∷ []) (sym c.area-item.is) in
     let has = g.S.Regions.has_header in
-    rw c.in_ok-push.ensures.items (cuts_more g.S.Regions.fits has source_test (tests_of has c.args.store.now c.args.before.items) c.args.store.now c.loop-area.store c.source_region.new.store (take i xs) (take (i + 1) xs) c.area-item.result c.loop-area.cuts.items c.in_ok-cut.cut c.loop-area.invariant c.source_region.ensures.kept c.in_ok-cut.ensures.fits c.in_ok-cut.ensures.exact more)
+    rw c.in_ok-push.ensures.items (cuts_more g.S.Regions.fits has source_test (tests_of has c.args.store.now c.args.before.items) c.args.store.now c.loop-area.store c.source_region.new.store (take i xs) (take (i + 1) xs) c.area-item.result c.loop-area.cuts.items c.in_ok-cut.cut c.loop-area.invariant c.source_region.ensures.kept c.in_ok-cut.ensures.fits (rw c.as_slice.ensures at c.in_ok-cut.ensures.exact) more)

@@ -1,6 +1,6 @@
 -- The notes of one device after another.
-use Rattle.std.proofs.Common.{◌≡◌, ℕ, ◌+◌, Bool, true, false, List, [], ◌∷◌, ◌++◌, append_assoc, append-nil, arith, length, Option, Some, None, Result, Ok, Err, refl, sym, ap, ◌∙◌}
-use Rattle.std.specs.Prelude.{◌≤◌, ◌&&◌, nat_lt, IsSome}
+use Rattle.std.proofs.Common.{◌≡◌, ℕ, ◌+◌, false, List, [], ◌∷◌, arith, length, Option, Some, None, Result, Ok, Err, refl, sym, ap, ◌∙◌}
+use Rattle.std.specs.Prelude.{◌≤◌, nat_lt, IsSome}
 use Rattle.std.specs.FinMap.{get}
 use Rattle.std.proofs.lemmas.Bool.Decides.{nat_tests}
 use Rattle.np_outside.specs.Files.{Files}
@@ -16,50 +16,12 @@ use Rattle.np_load.specs.declared.noted.Noted as gathered
 use Rattle.np_load.specs.Inputs.{Inputs, configs_say, device_says}
 use Rattle.np_load.specs.Loading.{Loads, LoadsAs, device_notes_say, noted_in, notes_say}
 use Rattle.np_load.specs.Limits.{file_limit}
-use Rattle.np_load.specs.Noting.{Noted, device_noted, devices_noted, file_noted, noted_after, noted_in_file, noted_of, nothing}
+use Rattle.np_load.specs.Noting.{Noted, device_noted, devices_noted, file_noted, noted_after, noted_in_file, noted_of}
 use Rattle.np_load.specs.Saying.{and_then, config_says, net_says}
 
 -- what is said with these notes in front
 abbrev pub behind_noted : Noted → Option (Result Noted (List ℕ)) → Option (Result Noted (List ℕ))
 behind_noted front says = and_then says (λ more. Some (Ok (noted_after front more)))
-
-and_assoc : (a b c : Bool) → ((a && b) && c) ≡ (a && (b && c))
-and_assoc true b c = refl
-and_assoc false b c = refl
-
-and_true : (b : Bool) → (b && true) ≡ b
-and_true true = refl
-and_true false = refl
-
-after_assoc : (one two three : Noted) → noted_after (noted_after one two) three ≡ noted_after one (noted_after two three)
-after_assoc one two three = (λ i. record { text = append_assoc one.text two.text three.text i; clean = and_assoc one.clean two.clean three.clean i })
-
-after_none : (one : Noted) → noted_after one nothing ≡ one
-after_none one = (λ i. record { text = append-nil one.text i; clean = and_true one.clean i })
-
--- nothing in front
-pub none_behind : (says : Option (Result Noted (List ℕ))) → behind_noted nothing says ≡ says
-none_behind None = refl
-none_behind (Some (Err text)) = refl
-none_behind (Some (Ok noted)) = refl
-
--- one device more is read, and the same is said
-pub one_more_noted : (files : Files) (net : Plan) (n : ℕ) (front more all : Noted) (device : Device) (rest : List Device) → all ≡ noted_after front more → device_notes_say files net n device ≡ Some (Ok more) →
-    behind_noted all (notes_say files net (n + 1) rest) ≡ behind_noted front (notes_say files net n (device ∷ rest))
-one_more_noted files net n front more all device rest is says =
-    ap (λ a. behind_noted a (notes_say files net (n + 1) rest)) is
-    ∙ by (notes_say files net (n + 1) rest)
-    ∙ ap (λ said. behind_noted front (and_then said (λ one. and_then (notes_say files net (n + 1) rest) (λ left. Some (Ok (noted_after one left)))))) (sym says)
-  where
-    by : (said : Option (Result Noted (List ℕ))) → behind_noted (noted_after front more) said ≡ behind_noted front (and_then said (λ left. Some (Ok (noted_after more left))))
-    by None = refl
-    by (Some (Err text)) = refl
-    by (Some (Ok left)) = ap (λ noted. Some (Ok noted)) (after_assoc front more left)
-
--- no device is left
-pub all_noted : (files : Files) (net : Plan) (n : ℕ) (front : Noted) (rest : List Device) (says : Option (Result Noted (List ℕ))) → rest ≡ [] → behind_noted front (notes_say files net n rest) ≡ says → says ≡ Some (Ok front)
-all_noted files net n front rest says none whole =
-    sym whole ∙ ap (λ ds. behind_noted front (notes_say files net n ds)) none ∙ ap (λ noted. Some (Ok noted)) (after_none front)
 
 -- the devices' notes are those of their configurations, where these are accepted
 notes_said : (files : Files) (net : Plan) (n : ℕ) (devices : List Device) → notes_say files net n devices ≡ and_then (configs_say files devices) (λ configs. Some (Ok (devices_noted files net n devices)))

@@ -1,8 +1,9 @@
 //! Reading a run's files, for what the readings of its configurations passed over.
 
-ghost use Rattle.std.specs.Prelude.{◌≡◌, ℕ, ◌++◌, ◌&&◌, ◌<◌, ◌≤◌, Some, Ok, IfOk, IsErrOf, IsSome, OnOk, length};
+ghost use Rattle.std.specs.Prelude.{◌≡◌, ◌≤◌, Some, Ok, IfOk, IsErrOf, IsSome, OnOk, length};
 ghost use Rattle.np_outside.specs.Counts.{Rose};
 ghost use Rattle.np_outside.specs.Files.{Files};
+ghost use Rattle.np_net.specs.Limits.{declaration_limit};
 ghost use Rattle.np_notes.specs.NameNotes.{interfaces_of};
 ghost use Rattle.np_notes.specs.Notes.{notes_of};
 ghost use Rattle.np_load.specs.declared.halt.Halt.TheVariants as halts;
@@ -134,7 +135,7 @@ fn load_each_notes<S: Shelf>(
     net: &Network,
     devices: &[Device],
 ) -> Result<Noted, Halt>
-    requires { length devices.now ≤ 256 }
+    requires { length devices.now ≤ declaration_limit }
     ensures says { (files : Files) → S.files shelf.old ≡ Some files → LoadsAs noted_in result (notes_say files net.now 0 devices.now) }
 
     ensures failed { IsErrOf result halts.ReadFault → Rose (S.faults shelf.old) (S.faults shelf.new) }

@@ -1,6 +1,6 @@
 //! The notes on a configuration.
 
-ghost use Rattle.std.specs.Prelude.{◌≡◌, ◌∷◌, ◌++◌, [], codes, map, OnOk, OnErr, IfOk};
+ghost use Rattle.std.specs.Prelude.{◌≡◌, ◌∷◌, ◌++◌, [], map, OnOk, OnErr, IfOk};
 ghost use Rattle.np_text.specs.Appending.{AppendsFront};
 ghost use Rattle.np_net_text.specs.CanonicalText.{line_text, lines_text, spaced};
 ghost use Rattle.np_report.specs.Notes as report;

@@ -132,11 +132,7 @@ pub fn notes_report(noted: Noted) -> Result<Answer, AllocError>
 {
     let Noted { mut text, clean } = noted;
     text.extend_from_slice(last_line(clean))?;
-    let status = if clean {
-        Status::Holds
-    } else {
-        Status::Fails
-    };
+    let status = if clean { Status::Holds } else { Status::Fails };
     Ok(Answer {
         text: Items::from_vec(text),
         status,

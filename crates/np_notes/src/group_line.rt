@@ -1,5 +1,6 @@
 //! Lines that apply lists at interfaces.
 
+use crate::shared_name::SharedName;
 use np_acl::Way;
 use np_text::Name;
 
@@ -8,7 +9,7 @@ use np_text::Name;
 pub struct GroupLine {
     /// Its number, from 1 on.
     pub line: u64,
-    pub interface: Name,
+    pub interface: SharedName,
     pub way: Way,
     pub list: Name,
 }

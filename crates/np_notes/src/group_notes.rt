@@ -39,8 +39,8 @@ impl Places {
         ensures added { OnOk result (self.new ≡ places.with_place self.old group.now) }
     {
         match group.way {
-            Way::Inward => self.inward.add(alloc, &group.interface),
-            Way::Outward => self.outward.add(alloc, &group.interface),
+            Way::Inward => self.inward.add(alloc, group.interface.name()),
+            Way::Outward => self.outward.add(alloc, group.interface.name()),
         }
     }
 }
@@ -105,12 +105,12 @@ fn group_note(
 ) -> Result<Option<Note>, AllocError>
     ensures { IfOk result (λ note. note ≡ names.group_note known.now declared.now.lists group.now) }
 {
-    if known.has(&group.interface) {
+    if known.has(group.interface.name()) {
         list_note(alloc, declared, group)
     } else {
         Ok(Some(Note::UnknownInterface {
             line: group.line,
-            interface: group.interface.copy(alloc)?,
+            interface: group.interface.name().copy(alloc)?,
         }))
     }
 }

@@ -14,6 +14,7 @@ mod names;
 mod note;
 mod noting;
 mod shape;
+mod shared_name;
 mod walk;
 
 pub use note::Note;

@@ -15,9 +15,10 @@ use crate::line_notes::line_note;
 use crate::line_shape::line_shape;
 use crate::name_set::NameSet;
 use crate::note::{Note, add_note};
+use crate::shared_name::SharedName;
 use np_acl_read::{Declared, Section, Statement, line_statement};
 use np_lines::LineError;
-use np_text::lines;
+use np_text::{Name, lines};
 use std::alloc::{AllocError, Global};
 
 /// What lines of a configuration have that notes speak of.
@@ -62,9 +63,25 @@ fn start(alloc: Global) -> Walk
     }
 }
 
-/// The line of this number that applies a list, where it does.
+/// The name of the interface of a line that applies a list, after these lines. The last of them
+/// shares its name where it is the same, so lines of one section keep it once, however long it is.
+fn shared_interface(
+    alloc: Global,
+    earlier: &[GroupLine],
+    interface: &Name,
+) -> Result<SharedName, AllocError>
+    ensures { IfOk result (λ shared. shared ≡ interface.now) }
+{
+    match earlier.last() {
+        Some(last) => last.interface.share_if_same(alloc, interface),
+        None => SharedName::of(alloc, interface),
+    }
+}
+
+/// The line of this number that applies a list after these lines, where it does.
 fn group_line(
     alloc: Global,
+    earlier: &[GroupLine],
     number: u64,
     said: &Option<Statement>,
 ) -> Result<Option<GroupLine>, AllocError>
@@ -79,7 +96,7 @@ fn group_line(
             },
         ) => Ok(Some(GroupLine {
             line: number,
-            interface: interface.copy(alloc)?,
+            interface: shared_interface(alloc, earlier, interface)?,
             way: *way,
             list: list.copy(alloc)?,
         })),
@@ -96,7 +113,7 @@ fn add_group(
 ) -> Result<(), AllocError>
     ensures { OnOk result (groups.new.items ≡ groups.old.items ++ option_to_list (names.group_in number said.now)) }
 {
-    if let Some(group) = group_line(alloc, number, said)? {
+    if let Some(group) = group_line(alloc, groups.as_slice(), number, said)? {
         groups.push(group)?;
     }
     Ok(())

@@ -7,7 +7,7 @@ A run ends by itself within 10 seconds, writes nothing to standard error, and ha
 it (5 and 6 need a device or memory that fails): `usage` exactly where the words fit no command; a refusal that names one
 of the run's files, a line that it has and a cause of its kind; a whole report with the last line that its status says; no
 text where a file isn't there. A second run gives the same, with another number of workers where the command takes one,
-and `show` of what `show` wrote does too. What the program doesn't know yet (WORKERS, `notes`, `gen`) is left out. The last
+and `show` of what `show` wrote does too. What an older program doesn't know (WORKERS, `notes`, `gen`) is left out. The last
 line says how many runs ended with each status and how many were wrong; the folder of a wrong run is kept. Without RUNS and
 SEED it makes 10,000 runs from seed 1.
 """

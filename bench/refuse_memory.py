@@ -176,7 +176,7 @@ def main():
     most = int(sys.argv[2]) if len(sys.argv) > 2 else 20000
     tried = wrongs = 0
     for files, words in RUNS:
-        # Words that the program doesn't know yet, or that aren't a command.
+        # Words that an older program doesn't know.
         if usage(program.path, *words):
             print(f'{" ".join(words)}: not known')
             continue

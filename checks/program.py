@@ -43,6 +43,8 @@ RUNS = [
     ('a goal that seven workers judge', {'net': OPEN}, ['check', 'net', '7'], 1,
      'goal 1 violated 0.0.0.0 0.0.0.0 6 0 0 0\nhop r e0 e1\nfails\n'),
     ('a line that is no list\'s', {'net': SHUT, 'r.cfg': DENY + 'hostname r\n'}, ['check', 'net'], 0, 'goal 1 holds\nholds\n'),
+    ('a line like an entry and an interface that isn\'t there', {'net': SHUT, 'r.cfg': DENY + 'permit tcp any any\n'},
+     ['notes', 'net'], 1, 'note r.cfg line 5 entry\nnote r.cfg no-interface e1\nnotes\n'),
     ('atoms of a list and a goal', {'net': SHUT, 'r.cfg': DENY}, ['atoms', 'net'], 0, ATOMS),
     ('a posture', {'net': SHUT + 'free r e1 out\n', 'r.cfg': DENY}, ['synth', 'net'], 0,
      'atoms 2\natom 1 0.0.0.0 0.0.0.0 0 0 0 0\natom 2 0.0.0.0 0.0.0.0 6 0 0 0\nslot r e1 out 1-2\nsynthesised\n'),
@@ -170,13 +172,15 @@ def strange_streams(program):
 
 
 def examples(program):
-    """The examples, each with its output beside it, and that of the README, whose output stands in the README too."""
+    """The examples, each with its output beside it and nothing to note, and that of the README, whose output stands there too."""
     for name in ('three-areas', 'branch-office'):
         folder = os.path.join(TOP, 'examples', name)
         with open(os.path.join(folder, 'expected')) as file:
             expected = file.read()
         done = subprocess.run([program, 'check', 'net'], cwd=folder, capture_output=True, timeout=60)
         yield f'the example {name}', (done.returncode, done.stdout) == (1, expected.encode())
+        done = subprocess.run([program, 'notes', 'net'], cwd=folder, capture_output=True, timeout=60)
+        yield f'the notes of the example {name}', (done.returncode, done.stdout) == (0, b'clean\n')
     with open(os.path.join(TOP, 'examples', 'three-areas', 'expected')) as file:
         shown = ''.join('    ' + line for line in file)
     with open(os.path.join(TOP, 'README.md')) as file:

@@ -40,7 +40,8 @@ pub fn judge(alloc: Global, net: &Network, case: &Case) -> Result<Items<Verdict>
 /// The areas at which goals begin, in the order of first appearance, are halved, and so are the workers;
 /// the first half has one more of each where they are odd. A part with fewer than two areas or fewer than
 /// two workers is judged in one thread, area after area: the gate is told of an area before its flow
-/// begins, and the flow is dropped before the next one begins.
+/// begins, and the flow is dropped before the next one begins. No clause says this; tests show that two
+/// workers come to the gate at a time, that one doesn't, and that it comes with each area once, in this order.
 pub fn judge_par<R: Threads + Sync, G: Gate + Sync>(
     rt: &R,
     alloc: Global,

@@ -6,7 +6,8 @@ use np_net::AreaId;
 /// several threads may call it at a time.
 pub trait Gate {
     /// Called with an area, by the thread that judges the goals that begin there, just before it starts
-    /// the area's flow. Each such area comes once.
+    /// the area's flow. Each such area comes once. No clause says this; tests show that
+    /// one worker calls it once for each area, in the order of first appearance, and that two call it at a time.
     fn enter(&self, source: AreaId);
 }
 

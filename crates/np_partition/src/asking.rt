@@ -27,8 +27,8 @@ fn class_from(shows: &[Show], root: usize, h: &Header) -> usize
 }
 
 impl Partition {
-    /// The class that the header is in, whether it is valid or not, without memory and in at most 111 steps. It is below
-    /// `classes` where the header's fields are of their widths: `dscp` is at most 63.
+    /// The class that the header is in, whether it is valid or not, without memory and in at most 111 steps. For a
+    /// partition of some tests it is below `classes` where the header's fields are of their widths: `dscp` is at most 63.
     pub fn class_of(&self, h: &Header) -> usize
         requires diagram { IsDiagram self.now.shows }
         requires there { self.now.root < length self.now.shows }

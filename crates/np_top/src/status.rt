@@ -3,12 +3,12 @@
 /// How a run ended. Its number is the program's exit status.
 #[derive(Clone, Copy, Debug, PartialEq, Eq)]
 pub enum Status {
-    /// 0: the report is written, and all goals hold, all answers are yes, or all moves are legal and no goal is broken; or
-    /// the atoms, a synthesised posture or a network's canonical text is written.
+    /// 0: the report is written, and all goals hold, all answers are yes, there is no note, or all moves are legal and no
+    /// goal is broken; or the atoms, a synthesised posture or a network's canonical text is written.
     Holds,
 
-    /// 1: the report is written, and a goal is violated or can't be attained, an answer is no, or a move is illegal or a
-    /// goal is broken.
+    /// 1: the report is written, and a goal is violated or can't be attained, an answer is no, there is a note, or a move is
+    /// illegal or a goal is broken.
     Fails,
 
     /// 2: the words fit no command; `usage` is written.

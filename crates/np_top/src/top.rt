@@ -91,7 +91,8 @@ fn run_command<R: Threads + Sync, G: Atomizer, S: Shelf, K: Sink, T: Gate + Sync
 /// regions, and writes its text to the sink. The regions of the store stay as they are.
 ///
 /// The commands are those of [`run`], which makes a store of its own and lets nobody watch. Where goals are judged, the
-/// gate is told of each area at which goals begin, by the thread that judges these goals.
+/// gate is told of each area at which goals begin, by the thread that judges these goals. No clause says this; a test
+/// shows that two workers come to the gate at a time.
 pub fn run_in<R: Threads + Sync, G: Atomizer, S: Shelf, K: Sink, T: Gate + Sync>(
     rt: &R,
     alloc: Global,

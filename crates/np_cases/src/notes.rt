@@ -8,7 +8,7 @@ use std::test::Fail;
 use std::thread::Threads;
 
 /// Configurations of the device between two areas, of which something was passed over, and its notes.
-const NOTED: [(&str, &str); 12] = [
+const NOTED: [(&str, &str); 17] = [
     (
         "interface e0\n ip access-group 100 in\n",
         "note r.cfg no-interface e1\nnote r.cfg line 2 undefined 100\nnotes\n",
@@ -57,12 +57,33 @@ const NOTED: [(&str, &str); 12] = [
         "interface e0\ninterface e1\npermit tcp any any\n20 deny ip any any\n20 remark x\n",
         "note r.cfg line 3 entry\nnote r.cfg line 4 entry\nnotes\n",
     ),
+    (
+        "interface e0\ninterface e1\n\tip nat inside\n\r ip nat outside\n\rip nat inside\nip access-list extended L\n\tdescription x\n",
+        "note r.cfg line 3 not-modelled\nnote r.cfg line 4 not-modelled\nnote r.cfg line 7 closes L\nnotes\n",
+    ),
+    (
+        "interface e0\ninterface e1\nipv6 access-list F\n permit ipv6 any any\nhostname r\n permit ipv6 any any\n",
+        "note r.cfg line 6 entry\nnotes\n",
+    ),
+    (
+        "interface e0\ninterface e1\nip access-list extended L\n permit ip any any\nip access-list resequence L 10 10\n",
+        "note r.cfg line 5 not-modelled\nnotes\n",
+    ),
+    (
+        "interface e0\ninterface e1\ndefault interface e0\nipv6 access-list F\n default interface e1\n",
+        "note r.cfg line 3 not-modelled\nnote r.cfg line 5 not-modelled\nnotes\n",
+    ),
+    (
+        "interface e0\n crypto map M\ninterface e1\n ip inspect FW in\ncrypto map M 10 ipsec-isakmp\naccess-list 100 permit ip any any\n ip nat inside\n",
+        "note r.cfg line 2 not-modelled\nnote r.cfg line 4 not-modelled\nnotes\n",
+    ),
 ];
 
 /// Configurations of the same device of which there is nothing to note.
-const CLEAN: [&str; 2] = [
+const CLEAN: [&str; 3] = [
     "interface e0\n ip access-group L in\ninterface e1\nip access-list extended L\n 10 deny tcp any any\n!\n 20 deny udp any any\n permit ip any any\n",
     "interface e0\ninterface e1\nipv6 access-list L6\n permit ipv6 any any\n sequence 20 deny ipv6 any any\n!\nip nat inside source list 1 interface e0 overload\n",
+    "interface e0\n! to the provider\n description to the provider\n ip access-group 100 in\ninterface e1\naccess-list 100 permit ip any any\n",
 ];
 
 /// Two devices that name one file.

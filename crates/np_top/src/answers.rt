@@ -136,13 +136,7 @@ fn summary<R: Threads + Sync, G: Atomizer, T: Gate + Sync>(
 {
     let case = case_by(alloc, store, net, configs)?;
     let verdicts = judge_par(rt, alloc, net, &case, workers, gate)?;
-    Ok(summary_report(
-        alloc,
-        seed,
-        net,
-        case.leasts.len(),
-        verdicts.as_slice(),
-    )?)
+    Ok(summary_report(alloc, seed, net, case.leasts.len(), verdicts.as_slice())?)
 }
 
 /// The answer to `gen`: the summary for the network and the configurations of a seed.

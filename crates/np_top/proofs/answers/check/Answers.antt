@@ -4,9 +4,6 @@ use Rattle.np_top.specs.Report.{verdicts_status}
 use Rattle.np_top.proofs.Reports.{verdicts_right, verdicts_within}
 use Rattle.np_top.proofs.answers.check.Goals as goal
 
-pub judge_par-requires : goal.judge_par-requires
-judge_par-requires g c = c.in_ok-case.ensures.case.sizes
-
 pub verdicts_report-requires : goal.verdicts_report-requires
 verdicts_report-requires g c =
     let net = c.args.inputs.net in

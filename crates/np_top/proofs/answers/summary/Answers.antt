@@ -4,9 +4,6 @@ use Rattle.np_top.specs.Report.{verdicts_status}
 use Rattle.np_top.proofs.Reports.{verdicts_right}
 use Rattle.np_top.proofs.answers.summary.Goals as goal
 
-pub judge_par-requires : goal.judge_par-requires
-judge_par-requires g c = c.in_ok-case.ensures.case.sizes
-
 pub returns-clause-report : goal.returns-clause-report
 returns-clause-report g c =
     let net = c.args.net.now in

@@ -13,6 +13,11 @@ pub returns-in_default-clause-write_prefix : goal.returns-in_default-clause-writ
 returns-in_default-clause-write_prefix g c = λ is files told.
     written_part (IsOutcome (texts_of c.args.words.now) files) usage_text Usage c.write.result _ _ _ (usage_outcome (texts_of c.args.words.now) files c.in_default.ensures) tt c.write.ensures.written is
 
+pub returns-clause-outcome : goal.returns-clause-outcome
+returns-clause-outcome g c = λ settled files told.
+    let w = c.run_command.ensures.outcome settled files told in
+    (w.0, answer_outcome (texts_of c.args.words.now) files (command_in c.in-Some.command) w.0 _ c.in-Some.ensures w.1, w.2)
+
 pub returns-clause-read_fault : goal.returns-clause-read_fault
 returns-clause-read_fault g c = λ is.
     let f = c.run_command.ensures.read_fault is in

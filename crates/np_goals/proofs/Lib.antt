@@ -4,3 +4,4 @@ pub mod CaseLaws
 pub mod MakingLaws
 pub mod Listing
 pub mod ExistenceLaws
+pub mod Sent

@@ -1,11 +1,11 @@
 -- The areas at which goals begin, results gathered, and results put into their places.
-use Rattle.std.proofs.Common.{◌≡◌, ◌≢◌, ℕ, zero, suc, ◌+◌, ◌<◌, ◌≤◌, ◌⊎◌, ◌==◌, Bool, true, false, List, [], ◌∷◌, ◌++◌, length, map, get_or, set, take, if◌then◌else◌, refl, sym, ◌∙◌, ap, subst, inl, inr, arith}
-use Rattle.std.proofs.lemmas.List.{map-append, get_or_default, get_or-set_same, get_or-set_other, length-set, take_more}
+use Rattle.std.proofs.Common.{◌≡◌, ◌≢◌, ℕ, zero, suc, ◌+◌, ◌<◌, ◌⊎◌, ◌==◌, Bool, true, false, List, [], ◌∷◌, ◌++◌, length, map, get_or, set, take, drop, if◌then◌else◌, refl, sym, ◌∙◌, ap, subst, inl, inr, arith}
+use Rattle.std.proofs.lemmas.List.{map-append, get_or_default, get_or-set_same, get_or-set_other, length-set, take_more, take-append-drop}
 use Rattle.std.proofs.lemmas.Bool.Decides.{eqb_tells}
 use Rattle.std.proofs.lemmas.Map.Views.{Contains-from_any}
 use Rattle.std.specs.List.{Contains, list_any}
 use Rattle.std.proofs.lemmas.Bool.{cases_lt, eqb-true}
-use Rattle.std.proofs.lemmas.List.Elements.{Contains-append_left, Contains-append_right, Contains-append_cases, Contains-push, Contains-push_cases, Contains-get_or}
+use Rattle.std.proofs.lemmas.List.Elements.{Contains-append_left, Contains-append_right, Contains-append_cases, Contains-push, Contains-push_cases}
 use Rattle.np_net.specs.declared.filtering.Goal.{Goal}
 use Rattle.np_net.specs.Network.{IsNetwork}
 use Rattle.np_net.specs.Plan.{Plan}
@@ -223,9 +223,9 @@ pub judged_there : (net : Plan) (case : Case) (source k : ℕ) (goal : Goal) (ve
 judged_there net case source k goal verdict below at from right =
     record { goal = below; source = λ d. ap (λ g. g.from) (sym (at ∙ get_or_default net.goals k goal d below)) ∙ from; right = right }
 
--- halves of areas
-pub fits_first : (count : ℕ) (areas first second : List ℕ) → areas ≡ first ++ second → AreAreas count areas → AreAreas count first
-fits_first count areas first second whole are = λ x c. are x (subst (λ l. Contains l x) (sym whole) (Contains-append_left first second x c))
+-- parts of areas
+pub fits_first : (count n : ℕ) (areas : List ℕ) → AreAreas count areas → AreAreas count (take n areas)
+fits_first count n areas are = λ x c. are x (subst (λ l. Contains l x) (take-append-drop n areas) (Contains-append_left (take n areas) (drop n areas) x c))
 
-pub fits_second : (count : ℕ) (areas first second : List ℕ) → areas ≡ first ++ second → AreAreas count areas → AreAreas count second
-fits_second count areas first second whole are = λ x c. are x (subst (λ l. Contains l x) (sym whole) (Contains-append_right first second x c))
+pub fits_second : (count n : ℕ) (areas : List ℕ) → AreAreas count areas → AreAreas count (drop n areas)
+fits_second count n areas are = λ x c. are x (subst (λ l. Contains l x) (take-append-drop n areas) (Contains-append_right (take n areas) (drop n areas) x c))

@@ -5,6 +5,7 @@ mod all;
 mod cases;
 mod flowing;
 mod gate;
+mod halves;
 mod judging;
 mod laws;
 mod pieces;
@@ -12,8 +13,9 @@ mod placing;
 mod sources;
 mod verdicts;
 
-pub use all::judge;
+pub use all::{judge, judge_par};
 pub use cases::{Case, case_of};
 pub use flowing::flows;
+pub use gate::{Gate, NoGate};
 pub use laws::{cuts_have_leasts, each_goal_has_a_verdict};
 pub use verdicts::Verdict;

@@ -1,4 +1,4 @@
-use Rattle.std.proofs.Common.{◌≡◌, ◌+◌, ap, arith, rules}
+use Rattle.std.proofs.Common.{◌+◌, rules}
 use Rattle.np_goals.specs.Sources.{BeginsBefore}
 use Rattle.np_goals.proofs.SourceLaws.{one_judged, split_there, judged_there}
 use Rattle.np_goals.proofs.pieces.judge_goal.Goals as goal

@@ -1,6 +1,5 @@
-use Rattle.std.proofs.Common.{◌≡◌, ◌<◌, ℕ, [], length, get_or, arith, sym}
+use Rattle.std.proofs.Common.{get_or, arith}
 use Rattle.std.proofs.lemmas.List.Elements.{Contains-get_or}
-use Rattle.np_goals.specs.Sources.{BeginsIn, AreJudged}
 use Rattle.np_goals.proofs.SourceLaws.{no_areas, next_area}
 use Rattle.np_goals.proofs.pieces.judge_piece.Goals as goal
 

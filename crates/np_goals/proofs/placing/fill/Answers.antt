@@ -1,4 +1,4 @@
-use Rattle.std.proofs.Common.{◌≡◌, ◌<◌, length, arith, rules}
+use Rattle.std.proofs.Common.{arith}
 use Rattle.np_goals.specs.Sources.{IsJudged}
 use Rattle.np_goals.proofs.SourceLaws.{last_is_judged, one_placed}
 use Rattle.np_goals.proofs.placing.fill.Goals as goal

@@ -1,7 +1,7 @@
 -- What the commands' steps give, as what their reports need.
-use Rattle.std.proofs.Common.{◌≡◌, ℕ, ◌<◌, ◌*◌, ◌+◌, Bool, false, List, [], ◌∷◌, length, get_or, arith, sym, ◌∙◌, subst}
+use Rattle.std.proofs.Common.{◌≡◌, ℕ, ◌<◌, ◌*◌, ◌+◌, Bool, false, List, [], ◌∷◌, length, get_or, map, arith, sym, ◌∙◌, ap, subst}
 use Rattle.std.specs.List.{All, AllByRecursion}
-use Rattle.std.proofs.lemmas.List.{get_or_default}
+use Rattle.std.proofs.lemmas.List.{get_or_default, get_or-map, length-map}
 use Rattle.std.proofs.lemmas.List.Elements.{All-from_recursion}
 use Rattle.np_space.specs.declared.headers.Header.{Header}
 use Rattle.np_acl_read.specs.declared.config.Config.{Config}

@@ -1,5 +1,5 @@
 -- The commands, and which words are one.
-use Rattle.std.specs.Prelude.{ℕ, List, [], ◌∷◌, Option, Some, None, codes, if◌then◌else◌, nat_eq, option_map, option_and_then}
+use Rattle.std.specs.Prelude.{ℕ, Bool, List, [], ◌∷◌, Option, Some, None, codes, if◌then◌else◌, nat_eq, option_map, option_and_then}
 use Rattle.std.specs.Str.{bytes_eq}
 use Rattle.np_text.specs.Numbers.{number_of}
 use Rattle.np_top.specs.declared.commands.Command as declared

@@ -11,9 +11,17 @@ use np_net::Network;
 use np_net_read::read_net;
 use std::alloc::{AllocError, Global};
 use std::string::String;
-use std::{env, fs, io};
+use std::{env, fs, io, str};
 
-/// The configuration of a device by its file's text, which has to be read.
+/// The text of a file in the current folder, or nothing where it can't be read.
+fn text(rt: &HostRuntime, alloc: Global, file: &[u8]) -> Result<String, io::Error> {
+    match str::from_utf8(file) {
+        Ok(file) => fs::read_to_string(rt, file),
+        Err(_) => Ok(String::new(alloc)),
+    }
+}
+
+/// The configuration of a device by its file's text; an empty one where that isn't read.
 fn config(alloc: Global, bytes: &[u8]) -> Result<Config, AllocError> {
     match read_config(alloc, bytes) {
         Ok(config) => Ok(config),
@@ -38,7 +46,7 @@ fn configs(rt: &HostRuntime, alloc: Global, net: &Network) -> Result<Vec<Config>
     let mut configs = Vec::new(alloc);
     for device in net.devices.as_slice() {
         let config = match &device.config {
-            Some(name) => config(alloc, fs::read(rt, name.bytes())?.as_slice())?,
+            Some(name) => config(alloc, text(rt, alloc, name.bytes())?.as_bytes())?,
             None => empty_config(alloc),
         };
         configs.push(config)?;

@@ -141,8 +141,16 @@ fn expect_noted<R: Threads + Sync + Abort>(
     number: u8,
 ) -> Result<(), Fail> {
     let net = filtered(alloc, "never tcp")?;
-    let files = [("net", net.as_str()), ("r.cfg", config)];
-    expect_by_diagrams(rt, alloc, config, &["notes", "net"], &files, text, number)
+    expect_report(
+        rt,
+        alloc,
+        "notes",
+        net.as_str(),
+        "r.cfg",
+        config,
+        text,
+        number,
+    )
 }
 
 #[test]

@@ -37,7 +37,9 @@ fn line(alloc: Global, net: &Network, configs: Vec<Config>) -> Result<String, Al
     let found = store.atomize(alloc, cuts.as_slice())?;
     format!(in alloc;
         "{} atoms, {} nodes, {} places\n",
-        found.atoms.leasts.len(), store.count(), found.classes.places()
+        found.atoms.leasts.len(),
+        store.count(),
+        found.classes.places()
     )
 }
 

@@ -42,7 +42,12 @@ impl Areas {
     }
 
     /// Adds an area. Where memory runs out, the areas stay as they were.
-    pub fn add(&mut self, alloc: Global, name: Name, sources: Items<Ternary>) -> Result<(), AllocError>
+    pub fn add(
+        &mut self,
+        alloc: Global,
+        name: Name,
+        sources: Items<Ternary>,
+    ) -> Result<(), AllocError>
         requires new { sources_named self.old name ≡ None }
         requires prefixes { IsTrue (are_prefixes sources) }
         ensures ok { OnOk result (self.new ≡ self.old ++ (name, sources) ∷ []) }

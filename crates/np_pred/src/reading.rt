@@ -48,12 +48,7 @@ fn is_area_name(word: &[u8]) -> bool
 
 // The addresses that the word at this position gives.
 #[tactic(auto, unfolding(crate::specs::Reading::sources_of))]
-fn sources(
-    alloc: Global,
-    areas: &Areas,
-    at: usize,
-    word: &[u8],
-) -> Result<Addresses, PredError>
+fn sources(alloc: Global, areas: &Areas, at: usize, word: &[u8]) -> Result<Addresses, PredError>
     ensures read { Gives result (sources_of areas.now at word.now) }
     ensures prefixes { IfOk result (λ patterns. IsTrue (are_prefixes patterns)) }
 {

@@ -1,22 +1,23 @@
 -- Texts of lines, and drawings in turn.
 use Rattle.std.proofs.Common.{◌≡◌, ℕ, zero, suc, ◌+◌, ◌-◌, ◌<◌, ◌≤◌, false, List, [], ◌∷◌, ◌++◌, map, codes, refl, sym, ap, ◌∙◌, arith}
 use Rattle.std.specs.Fmt.{decimal}
-use Rattle.std.specs.List.{flat_map, join_with_byte, range_with_len}
+use Rattle.std.specs.List.{flat_map, range_with_len}
 use Rattle.std.proofs.lemmas.Grind.{flat_map-append}
 use Rattle.std.proofs.lemmas.List.{append_assoc, append-nil, map-append}
 use Rattle.std.proofs.lemmas.List.FromFn.{map-range_with_len_more}
-use Rattle.np_text.specs.Joined.{joined_line, joined_text}
+use Rattle.np_text.proofs.JoinedLaws.{join_with_byte-flat_map}
+use Rattle.np_text.specs.Joined.{joined_line, joined_text, text_of_lines}
 use Rattle.np_generate.specs.declared.drawn.DrawnEntry.{DrawnEntry}
 use Rattle.np_generate.specs.ConfigLines.{action_word, addresses_words, entry_line, entry_lines, port_words, protocol_word}
 use Rattle.np_generate.specs.Drawing.{Drawing, in_turn}
 use Rattle.np_generate.specs.Drawn.{a_goal, an_entry, far_area, near_area, some_entries, some_far_areas, some_goals}
 use Rattle.np_generate.specs.Generated.{config_text}
-use Rattle.np_generate.specs.NetLines.{area_line, chord_lines, device_line, goal_line, goal_lines, interface_line, interface_lines, ring_lines, text_of}
+use Rattle.np_generate.specs.NetLines.{area_line, chord_lines, device_line, goal_line, goal_lines, interface_line, interface_lines, ring_lines}
 
 -- ---- lines
 
 -- the text of lines and more lines
-pub text_appended : (lines more : List (List (List ℕ))) → text_of (lines ++ more) ≡ text_of lines ++ text_of more
+pub text_appended : (lines more : List (List (List ℕ))) → text_of_lines (lines ++ more) ≡ text_of_lines lines ++ text_of_lines more
 text_appended lines more =
     ap joined_text (map-append (λ words. (false, words)) lines more)
     ∙ flat_map-append (λ line. joined_line line.0 line.1 ++ 10 ∷ []) (map (λ words. (false, words)) lines) (map (λ words. (false, words)) more)
@@ -30,13 +31,13 @@ pub moved : {X : Type 0} (mid new left piece rest whole : List X) → mid ++ lef
 moved mid new left piece rest whole so_far more next = rw more (append_assoc mid piece rest ∙ ap (λ text. mid ++ text) (sym next) ∙ so_far)
 
 -- one line more for the numbers below k
-one_more : (line : ℕ → List (List ℕ)) (k : ℕ) → text_of (map line (range_with_len 0 (k + 1))) ≡ text_of (map line (range_with_len 0 k)) ++ text_of (line k ∷ [])
-one_more line k = let below : 0 + k ≡ k = omega arith in ap text_of (map-range_with_len_more line 0 k k below) ∙ text_appended (map line (range_with_len 0 k)) (line k ∷ [])
+one_more : (line : ℕ → List (List ℕ)) (k : ℕ) → text_of_lines (map line (range_with_len 0 (k + 1))) ≡ text_of_lines (map line (range_with_len 0 k)) ++ text_of_lines (line k ∷ [])
+one_more line k = let below : 0 + k ≡ k = omega arith in ap text_of_lines (map-range_with_len_more line 0 k k below) ∙ text_appended (map line (range_with_len 0 k)) (line k ∷ [])
 
-pub area_next : (k : ℕ) → text_of (map area_line (range_with_len 0 (k + 1))) ≡ text_of (map area_line (range_with_len 0 k)) ++ text_of (area_line k ∷ [])
+pub area_next : (k : ℕ) → text_of_lines (map area_line (range_with_len 0 (k + 1))) ≡ text_of_lines (map area_line (range_with_len 0 k)) ++ text_of_lines (area_line k ∷ [])
 area_next k = one_more area_line k
 
-pub device_next : (k : ℕ) → text_of (map device_line (range_with_len 0 (k + 1))) ≡ text_of (map device_line (range_with_len 0 k)) ++ text_of (device_line k ∷ [])
+pub device_next : (k : ℕ) → text_of_lines (map device_line (range_with_len 0 (k + 1))) ≡ text_of_lines (map device_line (range_with_len 0 k)) ++ text_of_lines (device_line k ∷ [])
 device_next k = one_more device_line k
 
 -- the numbers below k, and k
@@ -47,24 +48,19 @@ numbers_next from (suc k) =
     let one : suc k + 1 ≡ suc (k + 1) = omega arith in
     ap (λ n. range_with_len from n) one ∙ ap (λ more. from ∷ more) (numbers_next (from + 1) k ∙ ap (λ n. range_with_len (from + 1) k ++ n ∷ []) e)
 
-pub ring_next : (k : ℕ) → text_of (flat_map ring_lines (range_with_len 0 (k + 1))) ≡ text_of (flat_map ring_lines (range_with_len 0 k)) ++ text_of (ring_lines k)
+pub ring_next : (k : ℕ) → text_of_lines (flat_map ring_lines (range_with_len 0 (k + 1))) ≡ text_of_lines (flat_map ring_lines (range_with_len 0 k)) ++ text_of_lines (ring_lines k)
 ring_next k =
     let zero_more : 0 + k ≡ k = omega arith in
-    ap (λ numbers. text_of (flat_map ring_lines numbers)) (numbers_next 0 k ∙ ap (λ n. range_with_len 0 k ++ n ∷ []) zero_more)
-    ∙ ap text_of (flat_map-append ring_lines (range_with_len 0 k) (k ∷ []))
+    ap (λ numbers. text_of_lines (flat_map ring_lines numbers)) (numbers_next 0 k ∙ ap (λ n. range_with_len 0 k ++ n ∷ []) zero_more)
+    ∙ ap text_of_lines (flat_map-append ring_lines (range_with_len 0 k) (k ∷ []))
     ∙ text_appended (flat_map ring_lines (range_with_len 0 k)) (ring_lines k)
 
 -- the line of an interface, as it is appended
-pub interface_text : (k n area : ℕ) → text_of (interface_line k n area ∷ []) ≡ (codes "interface d" ++ decimal k) ++ ((codes " e" ++ decimal n) ++ ((codes " a" ++ decimal area) ++ 10 ∷ []))
+pub interface_text : (k n area : ℕ) → text_of_lines (interface_line k n area ∷ []) ≡ (codes "interface d" ++ decimal k) ++ ((codes " e" ++ decimal n) ++ ((codes " a" ++ decimal area) ++ 10 ∷ []))
 unfolding interface_line
 interface_text k n area = flat (decimal k) (decimal n) (decimal area) where
   flat : (x y z : List ℕ) → codes "interface d" ++ (((x ++ (codes " e" ++ (y ++ (codes " a" ++ z)))) ++ 10 ∷ []) ++ []) ≡ (codes "interface d" ++ x) ++ ((codes " e" ++ y) ++ ((codes " a" ++ z) ++ 10 ∷ []))
   flat x y z = simp (append_assoc, append-nil)
-
--- the words after the first, each with a space before it
-joined_spaced : (word : List ℕ) (words : List (List ℕ)) → join_with_byte 32 (word ∷ words) ≡ word ++ flat_map (λ word. 32 ∷ word) words
-joined_spaced word [] = sym (append-nil word)
-joined_spaced word (next ∷ words) = ap (λ text. word ++ 32 ∷ text) (joined_spaced next words)
 
 -- the line of an entry, as it is appended
 pub entry_text : (entry : DrawnEntry) →
@@ -74,7 +70,7 @@ pub entry_text : (entry : DrawnEntry) →
 unfolding entry_line
 entry_text entry =
     rw (
-      joined_spaced (protocol_word entry.protocol) (addresses_words entry.source ++ (addresses_words entry.destination ++ port_words entry.port)),
+      join_with_byte-flat_map 32 (protocol_word entry.protocol) (addresses_words entry.source ++ (addresses_words entry.destination ++ port_words entry.port)),
       flat_map-append (λ word. 32 ∷ word) (addresses_words entry.source) (addresses_words entry.destination ++ port_words entry.port),
       flat_map-append (λ word. 32 ∷ word) (addresses_words entry.destination) (port_words entry.port),
     ) (
@@ -138,9 +134,9 @@ unfolding some_far_areas
 chords_begin x = refl
 
 pub chord_next : (k x : ℕ) → k < 24 →
-    text_of (chord_lines k (in_turn far_area k (24 - k) x).0) ≡ text_of (interface_lines k (near_area k) (far_area k x).0) ++ text_of (chord_lines (k + 1) (in_turn far_area (k + 1) (24 - (k + 1)) (far_area k x).1).0)
+    text_of_lines (chord_lines k (in_turn far_area k (24 - k) x).0) ≡ text_of_lines (interface_lines k (near_area k) (far_area k x).0) ++ text_of_lines (chord_lines (k + 1) (in_turn far_area (k + 1) (24 - (k + 1)) (far_area k x).1).0)
 chord_next k x below =
-    ap (λ drawn. text_of (chord_lines k drawn.0)) (in_turn_next far_area k 24 x below)
+    ap (λ drawn. text_of_lines (chord_lines k drawn.0)) (in_turn_next far_area k 24 x below)
     ∙ text_appended (interface_lines k (near_area k) (far_area k x).0) (chord_lines (k + 1) (in_turn far_area (k + 1) (24 - (k + 1)) (far_area k x).1).0)
 
 pub chord_state : (k x : ℕ) → k < 24 → (in_turn far_area k (24 - k) x).1 ≡ (in_turn far_area (k + 1) (24 - (k + 1)) (far_area k x).1).1
@@ -156,9 +152,9 @@ unfolding some_goals
 goals_begin x = refl
 
 pub goal_next : (k x : ℕ) → k < 16 →
-    text_of (goal_lines k (in_turn a_goal k (16 - k) x).0) ≡ text_of (goal_line k (a_goal k x).0 ∷ []) ++ text_of (goal_lines (k + 1) (in_turn a_goal (k + 1) (16 - (k + 1)) (a_goal k x).1).0)
+    text_of_lines (goal_lines k (in_turn a_goal k (16 - k) x).0) ≡ text_of_lines (goal_line k (a_goal k x).0 ∷ []) ++ text_of_lines (goal_lines (k + 1) (in_turn a_goal (k + 1) (16 - (k + 1)) (a_goal k x).1).0)
 goal_next k x below =
-    ap (λ drawn. text_of (goal_lines k drawn.0)) (in_turn_next a_goal k 16 x below)
+    ap (λ drawn. text_of_lines (goal_lines k drawn.0)) (in_turn_next a_goal k 16 x below)
     ∙ text_appended (goal_line k (a_goal k x).0 ∷ []) (goal_lines (k + 1) (in_turn a_goal (k + 1) (16 - (k + 1)) (a_goal k x).1).0)
 
 pub goal_state : (k x : ℕ) → k < 16 → (in_turn a_goal k (16 - k) x).1 ≡ (in_turn a_goal (k + 1) (16 - (k + 1)) (a_goal k x).1).1

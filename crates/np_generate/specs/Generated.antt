@@ -5,7 +5,8 @@ use Rattle.np_generate.specs.declared.drawn.DrawnEntry.{DrawnEntry}
 use Rattle.np_generate.specs.ConfigLines.{config_lines}
 use Rattle.np_generate.specs.Drawing.{Drawing, ◌>>=◌, given, in_turn}
 use Rattle.np_generate.specs.Drawn.{DrawnNet, a_net, some_entries}
-use Rattle.np_generate.specs.NetLines.{net_lines, text_of}
+use Rattle.np_text.specs.Joined.{text_of_lines}
+use Rattle.np_generate.specs.NetLines.{net_lines}
 
 -- what is drawn: of the network, and then the entries of each device
 pub record Drawn : Type 0 where
@@ -18,7 +19,7 @@ drawn = a_net >>= λ net. in_turn (λ k. some_entries) 0 24 >>= λ entries. give
 
 -- the text of a network
 abbrev pub net_text : DrawnNet → List ℕ
-net_text net = text_of (net_lines net)
+net_text net = text_of_lines (net_lines net)
 
 -- the text of a configuration
 abbrev pub config_text : List DrawnEntry → List ℕ

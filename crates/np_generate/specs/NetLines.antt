@@ -1,8 +1,7 @@
 -- The words of the lines of a generated network's text.
-use Rattle.std.specs.Prelude.{ℕ, ◌+◌, ◌%◌, false, List, [], ◌∷◌, ◌++◌, codes, map}
+use Rattle.std.specs.Prelude.{ℕ, ◌+◌, ◌%◌, List, [], ◌∷◌, ◌++◌, codes, map}
 use Rattle.std.specs.Fmt.{decimal}
 use Rattle.std.specs.List.{flat_map, range_with_len}
-use Rattle.np_text.specs.Joined.{joined_text}
 use Rattle.np_generate.specs.declared.drawn.DrawnGoal.{DrawnGoal}
 use Rattle.np_generate.specs.Drawn.{DrawnNet, near_area}
 
@@ -74,7 +73,3 @@ unfoldable pub net_lines : DrawnNet → List (List (List ℕ))
 net_lines drawn =
     (codes "depth" ∷ codes "8" ∷ [])
     ∷ (areas_lines ++ (devices_lines ++ (rings_lines ++ (chord_lines 16 drawn.far_areas ++ goal_lines 0 drawn.goals))))
-
--- lines of words as a text, the words of each joined by one space
-abbrev pub text_of : List (List (List ℕ)) → List ℕ
-text_of lines = joined_text (map (λ words. (false, words)) lines)

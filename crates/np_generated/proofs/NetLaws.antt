@@ -2,7 +2,8 @@
 use Rattle.std.proofs.Common.{◌≡◌, ℕ, sym, ap, ◌∙◌}
 use Rattle.std.specs.Prelude.{Ok}
 use Rattle.np_net.specs.Network.{IsNetwork}
-use Rattle.np_net_text.specs.Canonical.{net_text, text_of_lines}
+use Rattle.np_text.specs.Joined.{text_of_lines}
+use Rattle.np_net_text.specs.Canonical.{net_text}
 use Rattle.np_net_read.specs.Reading.{net_of}
 use Rattle.np_net_text.proofs.TextBackLaws.{net_of_text}
 use Rattle.np_generate.specs.Drawn.{a_net}

@@ -15,7 +15,7 @@ use Rattle.np_conf.specs.declared.answers.Broken.TheVariants as k
 use Rattle.np_ipsec_report.specs.declared.answers.IpAnswer.{IpAnswer}
 use Rattle.np_ipsec_report.specs.declared.answers.IpAnswer.TheVariants as answers
 use Rattle.np_script.specs.Written.{header_words, interface_words}
-use Rattle.np_report.specs.Words.{text_of}
+use Rattle.np_text.specs.Joined.{text_of_lines}
 
 -- the words of a mark that lets a forged packet pass
 abbrev pub forged_words : Plan → Option ℕ → List (List ℕ)
@@ -69,7 +69,7 @@ all_yes answers = list_all is_yes answers
 
 -- the text: the goals from 1 on, and a last line that says whether all answers are yes
 abbrev pub answers_text : Plan → List IpAnswer → List ℕ
-answers_text net answers = text_of (answer_lines net 1 answers ++ ((if all_yes answers then codes "yes" else codes "no") ∷ []) ∷ [])
+answers_text net answers = text_of_lines (answer_lines net 1 answers ++ ((if all_yes answers then codes "yes" else codes "no") ∷ []) ∷ [])
 
 -- ---- what is needed of what is written
 

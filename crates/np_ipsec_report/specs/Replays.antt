@@ -8,7 +8,7 @@ use Rattle.np_ipsec.specs.Steps.{State}
 use Rattle.np_script.specs.Written.{place_words}
 use Rattle.np_traj.specs.declared.states.Illegal.{Illegal}
 use Rattle.np_traj.specs.declared.states.Illegal.TheVariants as illegal
-use Rattle.np_report.specs.Words.{text_of}
+use Rattle.np_text.specs.Joined.{text_of_lines}
 
 -- the names of associations, from the bottom, joined by commas; `-` where there is none
 abbrev pub stack_word : Plan → List ℕ → List ℕ
@@ -56,4 +56,4 @@ legal_word (Some stop) = codes "illegal"
 
 -- the text: the states from 0 on, what stops them, the goals that are broken, and a last line
 abbrev pub replay_text : Plan → List State → Option (ℕ × Illegal) → List (ℕ × ℕ) → List ℕ
-replay_text net states stop breaches = text_of (state_lines net 0 states ++ (stop_lines stop ++ (map breach_words breaches ++ (legal_word stop ∷ []) ∷ [])))
+replay_text net states stop breaches = text_of_lines (state_lines net 0 states ++ (stop_lines stop ++ (map breach_words breaches ++ (legal_word stop ∷ []) ∷ [])))

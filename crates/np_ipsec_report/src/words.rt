@@ -6,7 +6,7 @@ ghost use Rattle.np_script.specs.Written.{interface_words};
 
 use np_ipsec::device_of;
 use np_net::{IfId, Network, device_name, interface_name};
-use np_report::put_word;
+use np_net_text::put_word;
 use std::alloc::AllocError;
 
 // Appends the words of an interface, each after a space.

@@ -9,6 +9,11 @@ abbrev pub added_if : {S D : Type 0} → (D → S → D) → D → Option S → 
 added_if added declared None = declared
 added_if added declared (Some s) = added declared s
 
+-- the last of these, and the first argument where there is none
+abbrev pub last_or : {X : Type 0} → Option X → List X → Option X
+last_or before [] = before
+last_or before (x ∷ xs) = last_or (Some x) xs
+
 -- one statement more declares what it adds to what the others declare
 abbrev pub GrowsBy : {S D : Type 0} → (List S → D) → (D → S → D) → Type 0
 GrowsBy {S} declared_by added = (before : List S) (s : S) → declared_by (before ++ s ∷ []) ≡ added (declared_by before) s

@@ -6,6 +6,7 @@ use Rattle.np_net.specs.declared.filtering.Interface.{Interface}
 use Rattle.np_net.specs.declared.associations.Kind.TheVariants as kinds
 use Rattle.np_net.specs.declared.associations.Sa.{Sa}
 use Rattle.np_net.specs.declared.associations.Table.{Table}
+use Rattle.np_net_read.specs.Tables.{no_rules}
 
 abbrev pub small_areas : List Area
 small_areas = record { name = codes "x"; sources = []; trusted = false } ∷ []
@@ -26,10 +27,6 @@ small_interfaces = small_interface (codes "e0") 0 ∷ small_interface (codes "e1
 
 abbrev pub small_associations : List Sa
 small_associations = record { name = codes "t"; kind = kinds.Esp; from = 0; to = 1 } ∷ []
-
--- a table without rules
-abbrev pub no_rules : Table
-no_rules = record { pops = []; ins = []; outs = [] }
 
 abbrev pub small_tables : List Table
 small_tables = no_rules ∷ no_rules ∷ no_rules ∷ []

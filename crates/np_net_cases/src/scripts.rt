@@ -1,7 +1,8 @@
 //! Texts of scripts: read, and refused.
 
 ghost use Rattle.std.specs.Prelude.{◌≡◌, IfOk};
-ghost use Rattle.np_net_cases.specs.Small.{no_rules, small_areas, small_associations, small_device, small_devices, small_interface, small_interfaces, small_tables};
+ghost use Rattle.np_net_read.specs.Tables.{no_rules};
+ghost use Rattle.np_net_cases.specs.Small.{small_areas, small_associations, small_device, small_devices, small_interface, small_interfaces, small_tables};
 
 use np_ipsec::{Motion, Place};
 use np_net::{Area, Device, Interface, Kind, Network, Sa, Table};

@@ -3,19 +3,16 @@ use Rattle.std.proofs.Common.{◌≡◌, ◌==◌, ℕ, zero, suc, ◌+◌, ◌<
 use Rattle.std.proofs.lemmas.Bool.{ne_eqb}
 use Rattle.std.proofs.lemmas.List.Elements.{filter_map-append}
 use Rattle.np_lines.specs.Declaring.{GrowsBy}
+use Rattle.np_lines.proofs.LastLaws.{last_more}
 use Rattle.np_net.specs.declared.filtering.Interface.{Interface}
 use Rattle.np_net.specs.declared.associations.InRule.{InRule}
 use Rattle.np_net.specs.declared.associations.OutRule.{OutRule}
 use Rattle.np_net.specs.declared.associations.Table.{Table}
 use Rattle.np_net_read.specs.declared.statement.Statement.{Statement}
 use Rattle.np_net_read.specs.declared.statement.Statement.TheVariants as statement
-use Rattle.np_net_read.specs.Declaring.{declared_by_network, pop_in, in_rule_in, out_rule_in, table_of, tables_from, last_or}
+use Rattle.np_net_read.specs.Declaring.{declared_by_network, pop_in, in_rule_in, out_rule_in, table_of, tables_from}
 use Rattle.np_net_read.specs.Fitting.{added}
 use Rattle.np_net_read.specs.Tables.{changed_at, no_rules, with_in_rule, with_out_rule, with_pop}
-
-last_more : (before : Option ℕ) (ns : List ℕ) (n : ℕ) → last_or before (ns ++ n ∷ []) ≡ Some n
-last_more before [] n = refl
-last_more before (m ∷ ns) n = last_more (Some m) ns n
 
 -- ---- one more statement, and the tables
 

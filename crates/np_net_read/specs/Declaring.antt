@@ -1,6 +1,7 @@
 -- What the statements of a text declare.
 use Rattle.std.specs.Prelude.{ℕ, ◌+◌, ◌*◌, Bool, nat_eq, ◌==◌, List, [], ◌∷◌, length, map, Option, Some, None, if◌then◌else◌}
 use Rattle.std.specs.List.{filter_map, list_any, range_with_len}
+use Rattle.np_lines.specs.Declaring.{last_or}
 use Rattle.np_net.specs.Plan.{Plan}
 use Rattle.np_net.specs.declared.filtering.Area.{Area}
 use Rattle.np_net.specs.declared.filtering.Device.{Device}
@@ -84,11 +85,6 @@ tables_from n (other ∷ statements) = tables_from n statements
 abbrev pub ipgoal_in : Statement → Option IpGoal
 ipgoal_in (statement.IpGoal goal) = Some goal
 ipgoal_in other = None
-
--- the last of these numbers, and the first argument where there is none
-abbrev pub last_or : Option ℕ → List ℕ → Option ℕ
-last_or before [] = before
-last_or before (n ∷ ns) = last_or (Some n) ns
 
 -- what the statements of a network's text declare: each list has its own of them, in their order, and each interface a table of its rules
 unfoldable pub declared_by_network : List Statement → Declared

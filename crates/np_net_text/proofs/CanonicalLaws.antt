@@ -4,12 +4,12 @@ use Rattle.std.specs.List.{flat_map, AllByRecursion}
 use Rattle.std.proofs.lemmas.List.{take_all}
 use Rattle.std.proofs.lemmas.List.Folds.{flat_map-map}
 use Rattle.std.proofs.lemmas.Grind.{flat_map-append}
-use Rattle.np_text.specs.Joined.{joined_line}
+use Rattle.np_text.specs.Joined.{joined_line, text_of_lines}
+use Rattle.np_text.proofs.JoinedLaws.{join_with_byte-flat_map}
 use Rattle.np_pred.specs.declared.predicate.Pred.{Pred}
 use Rattle.np_pred.specs.Canonical.{pred_words, pred_text}
 use Rattle.np_pred.proofs.CanonicalLaws.{IsWritten, written_inductive}
 use Rattle.np_pred.proofs.Induction.{by_induction}
-use Rattle.np_pred.proofs.PatternLaws.{join_with_byte-flat_map}
 use Rattle.np_net.specs.Plan.{Plan}
 use Rattle.np_net.specs.declared.filtering.Area.{Area}
 use Rattle.np_net.specs.declared.filtering.Device.{Device}
@@ -32,7 +32,7 @@ line_text-joined [] = refl
 line_text-joined (word ∷ words) =
     rw (join_with_byte-flat_map 32 word words) (sym (append_assoc word (spaced words) (10 ∷ [])))
 
-pub lines_text-joined : (lines : List (List (List ℕ))) → lines_text lines ≡ canonical.text_of_lines lines
+pub lines_text-joined : (lines : List (List (List ℕ))) → lines_text lines ≡ text_of_lines lines
 lines_text-joined [] = refl
 lines_text-joined (words ∷ lines) = rw (line_text-joined words, lines_text-joined lines) refl
 

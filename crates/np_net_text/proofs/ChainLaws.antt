@@ -1,7 +1,7 @@
 -- Lines of words that each declare something, read one after another.
 use Rattle.std.proofs.Common.{◌≡◌, ℕ, ◌+◌, Bool, false, List, [], ◌∷◌, ◌++◌, map, Option, Some, Ok, sym, refl, ap, ◌∙◌, subst}
 use Rattle.std.specs.List.{AllByRecursion}
-use Rattle.np_text.specs.Joined.{AreLinesOfWords, joined_line}
+use Rattle.np_text.specs.Joined.{AreLinesOfWords, joined_line, text_of_lines}
 use Rattle.np_text.specs.Lines.{lines_of}
 use Rattle.np_text.specs.Words.{words_of}
 use Rattle.np_text.proofs.JoinedLaws.{words_of-joined_line, lines_of-joined_text, words_of-joined_text}
@@ -10,7 +10,6 @@ use Rattle.np_lines.specs.Reading.{statements_from}
 use Rattle.np_net_read.specs.declared.fault.NetWhy.{NetWhy}
 use Rattle.np_net_read.specs.declared.declared.Declared.{Declared}
 use Rattle.np_net_read.specs.declared.statement.Statement.{Statement}
-use Rattle.np_net_text.specs.Canonical.{text_of_lines}
 use Rattle.np_net_read.specs.Declaring.{declared_by_network, network_of}
 use Rattle.np_net_read.specs.Fitting.{added}
 use Rattle.np_net_read.specs.Judging.{words_say, line_says}

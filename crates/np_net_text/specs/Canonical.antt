@@ -1,7 +1,7 @@
 -- The canonical text of a network.
-use Rattle.std.specs.Prelude.{ℕ, Bool, false, List, [], ◌∷◌, ◌++◌, map, Option, Some, None, codes, if◌then◌else◌}
+use Rattle.std.specs.Prelude.{ℕ, Bool, List, [], ◌∷◌, ◌++◌, map, Option, Some, None, codes, if◌then◌else◌}
 use Rattle.std.specs.Fmt.{decimal}
-use Rattle.np_text.specs.Joined.{joined_text}
+use Rattle.np_text.specs.Joined.{text_of_lines}
 use Rattle.np_pred.specs.Canonical.{pred_words}
 use Rattle.np_pred.specs.Patterns.{addresses_text}
 use Rattle.np_net.specs.Naming.{area_name, device_name, sa_name}
@@ -166,10 +166,6 @@ ipsec_lines net =
 -- the words of each line
 abbrev pub net_lines : Plan → List (List (List ℕ))
 net_lines net = filtering_lines net ++ ipsec_lines net
-
--- lines of words as a text: the words of each joined by one space, and each ended by the byte 10
-abbrev pub text_of_lines : List (List (List ℕ)) → List ℕ
-text_of_lines lines = joined_text (map (λ words. (false, words)) lines)
 
 -- the canonical text
 abbrev pub net_text : Plan → List ℕ

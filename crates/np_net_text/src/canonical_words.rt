@@ -1,6 +1,7 @@
 //! The words of the canonical text, each appended after a space.
 
-ghost use Rattle.std.specs.Prelude.{◌≡◌, ◌++◌, ◌∷◌, OnOk, IsTrue};
+ghost use Rattle.std.specs.Prelude.{◌≡◌, ◌++◌, ◌∷◌, OnOk, OnErr, IsTrue};
+ghost use Rattle.np_text.specs.Appending.{AppendsFront};
 ghost use Rattle.np_pred.specs.Canonical.{pred_words};
 ghost use Rattle.np_pred.specs.Forms.{has_prefixes};
 ghost use Rattle.np_net_text.specs.Canonical as canonical;
@@ -8,15 +9,18 @@ ghost use Rattle.np_net_text.specs.CanonicalText.{spaced};
 
 use np_net::{Interface, Network, device_name};
 use np_pred::{Pred, put_pred};
+use np_text::put_bytes;
 use std::alloc::AllocError;
 
 /// Appends a word after a space.
+///
+/// Where memory runs out, which alone is an error, a prefix of both may have been appended.
 pub fn put_word(out: &mut Vec<u8>, word: &[u8]) -> Result<(), AllocError>
-    ensures { OnOk result (out.new.items ≡ out.old.items ++ 32 ∷ word.now) }
+    ensures ok { OnOk result (out.new.items ≡ out.old.items ++ 32 ∷ word.now) }
+    ensures err { OnErr result (AppendsFront out.old.items out.new.items (32 ∷ word.now)) }
 {
     out.push(b' ')?;
-    out.extend_from_slice(word)?;
-    Ok(())
+    put_bytes(out, word)
 }
 
 /// Appends an interface's device and its name, each after a space.

@@ -6,6 +6,7 @@ use Rattle.std.proofs.Math.Seq.{take-length}
 use Rattle.std.proofs.lemmas.Option.{same_Some}
 use Rattle.np_text.specs.Addresses.{prefix_of, front_bits}
 use Rattle.np_text.specs.Numbers.{number_of}
+use Rattle.np_text.proofs.JoinedLaws.{join_with_byte-flat_map}
 use Rattle.np_text.proofs.NumberLaws.{number_of-le}
 use Rattle.np_space.specs.declared.patterns.Ternary.{Ternary}
 use Rattle.np_pred.specs.Patterns.{prefix_text, addresses_text}
@@ -42,11 +43,6 @@ abbrev pub with_front : List Ternary → Option (List Ternary) → Option (List 
 with_front front read = option_map (λ ps. front ++ ps) read
 
 -- ---- the text of a list
-
--- joined, each after the byte but for the first
-pub join_with_byte-flat_map : (c : ℕ) (x : List ℕ) (xs : List (List ℕ)) → join_with_byte c (x ∷ xs) ≡ x ++ flat_map (λ y. c ∷ y) xs
-join_with_byte-flat_map c x [] = sym (append-nil x)
-join_with_byte-flat_map c x (y ∷ xs) = ap (λ l. x ++ (c ∷ l)) (join_with_byte-flat_map c y xs)
 
 -- the word of some prefixes
 pub addresses_text-some : (p : Ternary) (ps : List Ternary) → addresses_text (p ∷ ps) ≡ prefix_text p ++ flat_map (λ q. 44 ∷ prefix_text q) ps

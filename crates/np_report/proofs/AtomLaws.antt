@@ -9,7 +9,7 @@ use Rattle.np_net_text.specs.CanonicalText.{spaced, line_text, lines_text}
 use Rattle.np_net_text.proofs.ParallelLaws.{drop-item}
 use Rattle.np_net_text.proofs.CanonicalLaws.{lines_text-append}
 use Rattle.np_script.specs.Written.{header_words}
-use Rattle.np_report.specs.Words.{text_of}
+use Rattle.np_text.specs.Joined.{text_of_lines}
 use Rattle.np_report.specs.Atoms.{goal_lines, list_lines, digits, atom_lines, atoms_text}
 use Rattle.np_report.proofs.TextLaws.{lines_appended}
 
@@ -53,7 +53,7 @@ report_made net names lists sets leasts goals o k l of-lists of-goals none first
     made (codes "cuts" ∷ decimal (length names + length net.goals) ∷ []) (list_lines net 1 names) (goal_lines (length names + 1) 1 net.goals) ((codes "atoms" ∷ decimal (length leasts) ∷ []) ∷ atom_lines sets 0 leasts)
     o k l none (rw (of-lists, of-goals) at first) second
   where
-    made : (head : List (List ℕ)) (lists goals atoms : List (List (List ℕ))) (o k l : List ℕ) → o ≡ [] → k ≡ o ++ lines_text (head ∷ (lists ++ goals)) → l ≡ k ++ lines_text atoms → l ≡ text_of (head ∷ (lists ++ (goals ++ atoms)))
+    made : (head : List (List ℕ)) (lists goals atoms : List (List (List ℕ))) (o k l : List ℕ) → o ≡ [] → k ≡ o ++ lines_text (head ∷ (lists ++ goals)) → l ≡ k ++ lines_text atoms → l ≡ text_of_lines (head ∷ (lists ++ (goals ++ atoms)))
     made head lists goals atoms o k l none first second =
         second
         ∙ ap (λ text. text ++ lines_text atoms) (first ∙ ap (λ text. text ++ lines_text (head ∷ (lists ++ goals))) none)

@@ -14,7 +14,8 @@ use Rattle.np_goals.specs.declared.verdicts.Verdict.TheVariants.{Violated}
 use Rattle.np_report.specs.Summary.{hop_count, is_hop_line, is_violated, summary_text}
 use Rattle.np_report.specs.Verdicts.{all_hold, goals_lines, verdict_lines}
 use Rattle.np_script.specs.Written.{header_words}
-use Rattle.np_report.specs.Words.{hop_lines, hop_words, text_of}
+use Rattle.np_text.specs.Joined.{text_of_lines}
+use Rattle.np_report.specs.Words.{hop_lines, hop_words}
 use Rattle.np_report.proofs.TextLaws.{lines_appended}
 
 -- how many of some items pass, and of others
@@ -65,7 +66,7 @@ all_hops net verdicts =
     none false = refl
 
 -- five lines, appended one after another
-five_lines : (o k l m n p : List ℕ) (a b c d e : List (List ℕ)) → o ≡ [] → k ≡ o ++ line_text a → l ≡ k ++ line_text b → m ≡ l ++ line_text c → n ≡ m ++ line_text d → p ≡ n ++ line_text e → p ≡ text_of (a ∷ b ∷ c ∷ d ∷ e ∷ [])
+five_lines : (o k l m n p : List ℕ) (a b c d e : List (List ℕ)) → o ≡ [] → k ≡ o ++ line_text a → l ≡ k ++ line_text b → m ≡ l ++ line_text c → n ≡ m ++ line_text d → p ≡ n ++ line_text e → p ≡ text_of_lines (a ∷ b ∷ c ∷ d ∷ e ∷ [])
 five_lines o k l m n p a b c d e none first second third fourth fifth =
     rw (fifth, fourth, third, second, first, none) (joined (line_text a) (line_text b) (line_text c) (line_text d) (line_text e)) ∙ sym (lines_appended (a ∷ b ∷ c ∷ d ∷ e ∷ []))
   where
@@ -86,6 +87,6 @@ summary_appended o k l m n p seed net atoms verdicts s v h is_s is_v is_h none f
     five_lines o k l m n p
     (codes "gen" ∷ decimal s ∷ []) (sizes_words net) (codes "atoms" ∷ decimal atoms ∷ []) (codes "violated" ∷ decimal v ∷ []) (codes "hops" ∷ decimal h ∷ [])
     none first second third fourth fifth
-    ∙ ap (λ s. text_of ((codes "gen" ∷ decimal s ∷ []) ∷ sizes_words net ∷ (codes "atoms" ∷ decimal atoms ∷ []) ∷ (codes "violated" ∷ decimal v ∷ []) ∷ (codes "hops" ∷ decimal h ∷ []) ∷ [])) is_s
-    ∙ ap (λ v. text_of ((codes "gen" ∷ decimal seed ∷ []) ∷ sizes_words net ∷ (codes "atoms" ∷ decimal atoms ∷ []) ∷ (codes "violated" ∷ decimal v ∷ []) ∷ (codes "hops" ∷ decimal h ∷ []) ∷ [])) is_v
-    ∙ ap (λ h. text_of ((codes "gen" ∷ decimal seed ∷ []) ∷ sizes_words net ∷ (codes "atoms" ∷ decimal atoms ∷ []) ∷ (codes "violated" ∷ decimal (count_by is_violated verdicts) ∷ []) ∷ (codes "hops" ∷ decimal h ∷ []) ∷ [])) (sym is_h)
+    ∙ ap (λ s. text_of_lines ((codes "gen" ∷ decimal s ∷ []) ∷ sizes_words net ∷ (codes "atoms" ∷ decimal atoms ∷ []) ∷ (codes "violated" ∷ decimal v ∷ []) ∷ (codes "hops" ∷ decimal h ∷ []) ∷ [])) is_s
+    ∙ ap (λ v. text_of_lines ((codes "gen" ∷ decimal seed ∷ []) ∷ sizes_words net ∷ (codes "atoms" ∷ decimal atoms ∷ []) ∷ (codes "violated" ∷ decimal v ∷ []) ∷ (codes "hops" ∷ decimal h ∷ []) ∷ [])) is_v
+    ∙ ap (λ h. text_of_lines ((codes "gen" ∷ decimal seed ∷ []) ∷ sizes_words net ∷ (codes "atoms" ∷ decimal atoms ∷ []) ∷ (codes "violated" ∷ decimal (count_by is_violated verdicts) ∷ []) ∷ (codes "hops" ∷ decimal h ∷ []) ∷ [])) (sym is_h)

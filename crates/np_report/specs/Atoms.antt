@@ -6,7 +6,7 @@ use Rattle.np_atomset.specs.AtomSet.{has_member}
 use Rattle.np_net.specs.Naming.{device_name}
 use Rattle.np_net.specs.Plan.{Plan}
 use Rattle.np_script.specs.Written.{header_words}
-use Rattle.np_report.specs.Words.{text_of}
+use Rattle.np_text.specs.Joined.{text_of_lines}
 
 -- a line for each list that is applied, of which the first has this number: its device and its name
 abbrev pub list_lines : Plan → ℕ → List (ℕ × List ℕ) → List (List (List ℕ))
@@ -38,4 +38,4 @@ atoms_lines net lists sets leasts =
 
 -- the text: the lists with their devices, what each cut says of each atom, and the atoms' least members
 abbrev pub atoms_text : Plan → List (ℕ × List ℕ) → List (List Bool) → List Header → List ℕ
-atoms_text net lists sets leasts = text_of (atoms_lines net lists sets leasts)
+atoms_text net lists sets leasts = text_of_lines (atoms_lines net lists sets leasts)

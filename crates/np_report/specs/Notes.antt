@@ -3,7 +3,7 @@ use Rattle.std.specs.Prelude.{ℕ, List, [], ◌∷◌, codes, map}
 use Rattle.std.specs.Fmt.{decimal}
 use Rattle.np_notes.specs.declared.note.Note.{Note}
 use Rattle.np_notes.specs.declared.note.Note.TheVariants.{StrayEntry, Closes, NotModelled, StrayGroup, NoInterface, UnknownInterface, Undefined, Empty}
-use Rattle.np_report.specs.Words.{text_of}
+use Rattle.np_text.specs.Joined.{text_of_lines}
 
 -- the words of what is noted of the line of this number
 abbrev pub at_line : ℕ → List (List ℕ) → List (List ℕ)
@@ -26,4 +26,4 @@ note_words file note = codes "note" ∷ file ∷ noted_words note
 
 -- the text of the notes on the configuration in this file: a line for each, in their order
 abbrev pub notes_text : List ℕ → List Note → List ℕ
-notes_text file notes = text_of (map (note_words file) notes)
+notes_text file notes = text_of_lines (map (note_words file) notes)

@@ -7,7 +7,7 @@ use Rattle.np_net_read.specs.declared.fault.NetWhy.{NetWhy}
 use Rattle.np_net_read.specs.declared.fault.NetWhy.TheVariants as net
 use Rattle.np_script.specs.declared.fault.ScriptWhy.{ScriptWhy}
 use Rattle.np_script.specs.declared.fault.ScriptWhy.TheVariants as script
-use Rattle.np_report.specs.Words.{text_of}
+use Rattle.np_text.specs.Joined.{text_of_lines}
 use Rattle.np_report.specs.declared.refusals.Refusal.{Refusal}
 use Rattle.np_report.specs.declared.refusals.Refusal.TheVariants.{TooLong, Net, Config, Script}
 
@@ -58,4 +58,4 @@ refusal_words (Script fault) = line_words fault.line (script_word fault.why)
 
 -- the text: one line
 abbrev pub refusal_text : List ℕ → Refusal → List ℕ
-refusal_text file why = text_of ((codes "refused" ∷ file ∷ refusal_words why) ∷ [])
+refusal_text file why = text_of_lines ((codes "refused" ∷ file ∷ refusal_words why) ∷ [])

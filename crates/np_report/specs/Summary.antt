@@ -5,7 +5,7 @@ use Rattle.std.specs.Str.{bytes_eq}
 use Rattle.np_net.specs.Plan.{Plan}
 use Rattle.np_goals.specs.declared.verdicts.Verdict.{Verdict}
 use Rattle.np_report.specs.Verdicts.{is_holding, verdicts_lines}
-use Rattle.np_report.specs.Words.{text_of}
+use Rattle.np_text.specs.Joined.{text_of_lines}
 
 -- a verdict that the goal is violated
 abbrev pub is_violated : Verdict → Bool
@@ -32,4 +32,4 @@ summary_lines seed net atoms verdicts =
 
 -- the text
 abbrev pub summary_text : ℕ → Plan → ℕ → List Verdict → List ℕ
-summary_text seed net atoms verdicts = text_of (summary_lines seed net atoms verdicts)
+summary_text seed net atoms verdicts = text_of_lines (summary_lines seed net atoms verdicts)

@@ -10,7 +10,8 @@ use Rattle.np_net.specs.declared.filtering.Interface.{Interface}
 use Rattle.np_synth.specs.Dropping.{nothing}
 use Rattle.np_synth.specs.declared.chosen.Dropped.{Dropped}
 use Rattle.np_script.specs.Written.{header_words}
-use Rattle.np_report.specs.Words.{text_of, hop_lines}
+use Rattle.np_text.specs.Joined.{text_of_lines}
+use Rattle.np_report.specs.Words.{hop_lines}
 
 -- ---- sets of atoms
 
@@ -70,11 +71,11 @@ slots_lines net sets drops slot (true ∷ free) =
 -- the text on a chosen posture: the atoms, then the free slots with what they drop, and a last line
 abbrev pub chosen_text : Plan → List Header → List (List Bool) → List Dropped → List ℕ
 chosen_text net leasts sets drops =
-    text_of ((codes "atoms" ∷ decimal (length leasts) ∷ []) ∷ (least_lines 0 leasts ++ (slots_lines net sets drops 0 net.free ++ (codes "synthesised" ∷ []) ∷ [])))
+    text_of_lines ((codes "atoms" ∷ decimal (length leasts) ∷ []) ∷ (least_lines 0 leasts ++ (slots_lines net sets drops 0 net.free ++ (codes "synthesised" ∷ []) ∷ [])))
 
 -- the text on goals that can't be attained: the first goal that is broken with the free slots shut, the least header that breaks it, and the hops of its first path
 abbrev pub unattainable_text : Plan → ℕ → Header → List (ℕ × ℕ) → List ℕ
-unattainable_text net goal header hops = text_of ((codes "unattainable" ∷ codes "goal" ∷ decimal (goal + 1) ∷ header_words header) ∷ hop_lines net hops)
+unattainable_text net goal header hops = text_of_lines ((codes "unattainable" ∷ codes "goal" ∷ decimal (goal + 1) ∷ header_words header) ∷ hop_lines net hops)
 
 -- ---- what is needed of what is written
 

@@ -7,7 +7,8 @@ use Rattle.np_net.specs.declared.filtering.Interface.{Interface}
 use Rattle.np_goals.specs.declared.verdicts.Verdict.{Verdict}
 use Rattle.np_goals.specs.declared.verdicts.Verdict.TheVariants.{Holds, Violated}
 use Rattle.np_script.specs.Written.{header_words}
-use Rattle.np_report.specs.Words.{text_of, hop_lines}
+use Rattle.np_text.specs.Joined.{text_of_lines}
+use Rattle.np_report.specs.Words.{hop_lines}
 
 -- the lines of the goal of this number: that it holds, or the least header that breaks it and the hops of its first path
 abbrev pub verdict_lines : Plan → ℕ → Verdict → List (List (List ℕ))
@@ -34,7 +35,7 @@ verdicts_lines net verdicts = goals_lines net 1 verdicts ++ ((if all_hold verdic
 
 -- their text
 abbrev pub verdicts_text : Plan → List Verdict → List ℕ
-verdicts_text net verdicts = text_of (verdicts_lines net verdicts)
+verdicts_text net verdicts = text_of_lines (verdicts_lines net verdicts)
 
 -- the interfaces of the path of a violated goal are among these
 abbrev pub HasInterfaces : List Interface → Verdict → Type 0

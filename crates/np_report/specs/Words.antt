@@ -1,13 +1,8 @@
 -- The lines of reports, as lists of words.
-use Rattle.std.specs.Prelude.{ℕ, false, List, [], ◌∷◌, codes, map}
-use Rattle.np_text.specs.Joined.{joined_text}
+use Rattle.std.specs.Prelude.{ℕ, List, [], ◌∷◌, codes, map}
 use Rattle.np_net.specs.Naming.{device_name, interface_name}
 use Rattle.np_net.specs.Path.{device_of}
 use Rattle.np_net.specs.Plan.{Plan}
-
--- the text of lines, each of which is its words, joined by one space, and the byte that ends it
-abbrev pub text_of : List (List (List ℕ)) → List ℕ
-text_of lines = joined_text (map (λ words. (false, words)) lines)
 
 -- the words of a hop: its device, the interface by which it comes in, and the one by which it goes out
 abbrev pub hop_words : Plan → ℕ × ℕ → List (List ℕ)

@@ -9,7 +9,8 @@ ghost use Rattle.np_net_text.specs.CanonicalText.{line_text, lines_text, spaced}
 ghost use Rattle.np_script.specs.Written.{header_words};
 ghost use Rattle.np_report.specs.Atoms.{atoms_text, atom_lines, goal_lines, list_lines, digits};
 
-use crate::words::{put_header, put_number_word, put_word};
+use crate::words::{put_header, put_number_word};
+use np_net_text::put_word;
 use np_atoms::Atoms;
 use np_atomset::AtomSet;
 use np_cut::Applied;

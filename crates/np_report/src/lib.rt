@@ -18,4 +18,4 @@ pub use refusals::{Refusal, put_refusal};
 pub use summary::put_summary;
 pub use synthesis::{put_chosen, put_unattainable};
 pub use verdicts::put_verdicts;
-pub use words::{put_header, put_number_word, put_word};
+pub use words::{put_header, put_number_word};

@@ -6,7 +6,8 @@ ghost use Rattle.np_net_text.specs.CanonicalText.{line_text, lines_text, spaced}
 ghost use Rattle.np_report.specs.Notes as report;
 ghost use Rattle.np_report.specs.Notes.{notes_text};
 
-use crate::words::{put_number_word, put_word};
+use crate::words::put_number_word;
+use np_net_text::put_word;
 use np_notes::Note;
 use np_text::put_bytes;
 use std::alloc::{AllocError, Global};

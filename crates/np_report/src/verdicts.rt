@@ -9,7 +9,8 @@ ghost use Rattle.np_report.specs.Words.{hop_lines};
 ghost use Rattle.np_report.specs.Verdicts as report;
 ghost use Rattle.np_report.specs.Verdicts.{verdicts_text, HasInterfaces};
 
-use crate::words::{put_header, put_hops, put_number_word, put_word};
+use crate::words::{put_header, put_hops, put_number_word};
+use np_net_text::put_word;
 use np_goals::Verdict;
 use np_net::{IfId, Network};
 use np_space::Header;

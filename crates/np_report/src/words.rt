@@ -1,9 +1,10 @@
 //! Words and lines that several reports have.
 
-ghost use Rattle.std.specs.Prelude.{◌≡◌, ◌++◌, ◌∷◌, ◌<◌, [], length, OnOk};
+ghost use Rattle.std.specs.Prelude.{◌≡◌, ◌++◌, ◌∷◌, ◌<◌, [], length, OnOk, OnErr};
 ghost use Rattle.std.specs.Fmt.{decimal};
 ghost use Rattle.std.specs.List.{All};
 ghost use Rattle.np_text.specs.Addresses.{dotted};
+ghost use Rattle.np_text.specs.Appending.{AppendsFront};
 ghost use Rattle.np_space.specs.Flag.{flag_number};
 ghost use Rattle.np_net.specs.Path as path;
 ghost use Rattle.np_net_text.specs.CanonicalText.{line_text, lines_text, spaced};
@@ -11,26 +12,20 @@ ghost use Rattle.np_script.specs.Written.{dscp_words, header_words};
 ghost use Rattle.np_report.specs.Words.{hop_words, hop_lines};
 
 use np_net::{DevId, IfId, Network, device_name, interface_name};
+use np_net_text::put_word;
 use np_space::Header;
 use np_text::{put_address, put_number};
 use std::alloc::AllocError;
 
-/// Appends a word after a space. Fails only for want of memory; a prefix of it may have been appended then.
-pub fn put_word(text: &mut Vec<u8>, word: &[u8]) -> Result<(), AllocError>
-    ensures { OnOk result (text.new.items ≡ text.old.items ++ 32 ∷ word.now) }
-{
-    text.push(b' ')?;
-    text.extend_from_slice(word)?;
-    Ok(())
-}
-
-/// Appends a number in decimal after a space. Fails as `put_word` does.
+/// Appends a number in decimal after a space.
+///
+/// Where memory runs out, which alone is an error, a prefix of both may have been appended.
 pub fn put_number_word(text: &mut Vec<u8>, value: u64) -> Result<(), AllocError>
-    ensures { OnOk result (text.new.items ≡ text.old.items ++ 32 ∷ decimal value) }
+    ensures ok { OnOk result (text.new.items ≡ text.old.items ++ 32 ∷ decimal value) }
+    ensures err { OnErr result (AppendsFront text.old.items text.new.items (32 ∷ decimal value)) }
 {
     text.push(b' ')?;
-    put_number(text, value)?;
-    Ok(())
+    put_number(text, value)
 }
 
 fn flag_number(flag: bool) -> u64
@@ -41,42 +36,54 @@ fn flag_number(flag: bool) -> u64
 
 // Appends an address after a space.
 fn put_address_word(text: &mut Vec<u8>, address: u32) -> Result<(), AllocError>
-    ensures { OnOk result (text.new.items ≡ text.old.items ++ 32 ∷ dotted address) }
+    ensures ok { OnOk result (text.new.items ≡ text.old.items ++ 32 ∷ dotted address) }
+    ensures err { OnErr result (AppendsFront text.old.items text.new.items (32 ∷ dotted address)) }
 {
     text.push(b' ')?;
-    put_address(text, address)?;
-    Ok(())
+    put_address(text, address)
 }
 
 // Appends the word of a code point after a space, or nothing where it is 0.
 fn put_dscp(text: &mut Vec<u8>, dscp: u8) -> Result<(), AllocError>
-    ensures { OnOk result (text.new.items ≡ text.old.items ++ spaced (dscp_words dscp)) }
+    ensures ok { OnOk result (text.new.items ≡ text.old.items ++ spaced (dscp_words dscp)) }
+    ensures err { OnErr result (AppendsFront text.old.items text.new.items (spaced (dscp_words dscp))) }
 {
     if dscp == 0 {
         return Ok(());
     }
     put_word(text, b"dscp=")?;
-    put_number(text, u64::from(dscp))?;
-    Ok(())
+    put_number(text, u64::from(dscp))
 }
 
 // Appends the words of a header's addresses and of its protocol, each after a space.
 fn put_ends(text: &mut Vec<u8>, src: u32, dst: u32, proto: u8) -> Result<(), AllocError>
-    ensures { OnOk result (text.new.items ≡ text.old.items ++ spaced (dotted src ∷ dotted dst ∷ decimal proto ∷ [])) }
+    ensures ok { OnOk result (text.new.items ≡ text.old.items ++ spaced (dotted src ∷ dotted dst ∷ decimal proto ∷ [])) }
+    ensures err { OnErr result (AppendsFront text.old.items text.new.items (spaced (dotted src ∷ dotted dst ∷ decimal proto ∷ []))) }
 {
     put_address_word(text, src)?;
     put_address_word(text, dst)?;
     put_number_word(text, u64::from(proto))
 }
 
-/// Appends the words of a header, each after a space. Fails as `put_word` does.
+// Appends the words of two numbers and a flag, each after a space.
+fn put_numbers(text: &mut Vec<u8>, a: u16, b: u16, flag: bool) -> Result<(), AllocError>
+    ensures ok { OnOk result (text.new.items ≡ text.old.items ++ spaced (decimal a ∷ decimal b ∷ decimal (flag_number flag) ∷ [])) }
+    ensures err { OnErr result (AppendsFront text.old.items text.new.items (spaced (decimal a ∷ decimal b ∷ decimal (flag_number flag) ∷ []))) }
+{
+    put_number_word(text, u64::from(a))?;
+    put_number_word(text, u64::from(b))?;
+    put_number_word(text, flag_number(flag))
+}
+
+/// Appends the words of a header, each after a space.
+///
+/// Where memory runs out, which alone is an error, a prefix of them may have been appended.
 pub fn put_header(text: &mut Vec<u8>, h: &Header) -> Result<(), AllocError>
-    ensures { OnOk result (text.new.items ≡ text.old.items ++ spaced (header_words h.now)) }
+    ensures ok { OnOk result (text.new.items ≡ text.old.items ++ spaced (header_words h.now)) }
+    ensures err { OnErr result (AppendsFront text.old.items text.new.items (spaced (header_words h.now))) }
 {
     put_ends(text, h.src, h.dst, h.proto)?;
-    put_number_word(text, u64::from(h.a))?;
-    put_number_word(text, u64::from(h.b))?;
-    put_number_word(text, flag_number(h.est))?;
+    put_numbers(text, h.a, h.b, h.est)?;
     put_dscp(text, h.dscp)
 }
 

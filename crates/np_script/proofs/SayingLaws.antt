@@ -3,13 +3,9 @@ use Rattle.std.proofs.Common.{◌≡◌, List, [], ◌∷◌, ◌++◌, Option, 
 use Rattle.std.proofs.lemmas.List.Elements.{filter_map-append}
 use Rattle.std.specs.List.{filter_map}
 use Rattle.np_lines.specs.Declaring.{GrowsBy}
-use Rattle.np_script.specs.declared.statement.Start.{Start}
+use Rattle.np_lines.proofs.LastLaws.{last_more}
 use Rattle.np_script.specs.declared.statement.Statement.TheVariants as statement
-use Rattle.np_script.specs.Saying.{added, draft_of, last_or, move_in, start_in}
-
-last_more : (before : Option Start) (starts : List Start) (start : Start) → last_or before (starts ++ start ∷ []) ≡ Some start
-last_more before [] start = refl
-last_more before (first ∷ starts) start = last_more (Some first) starts start
+use Rattle.np_script.specs.Saying.{added, draft_of, move_in, start_in}
 
 pub one_more : GrowsBy draft_of added
 unfolding draft_of

@@ -1,6 +1,7 @@
 -- What the statements of a script say together.
 use Rattle.std.specs.Prelude.{List, [], ◌∷◌, ◌++◌, Option, Some, None}
 use Rattle.std.specs.List.{filter_map}
+use Rattle.np_lines.specs.Declaring.{last_or}
 use Rattle.np_ipsec.specs.declared.places.Motion.{Motion}
 use Rattle.np_script.specs.declared.draft.Draft.{Draft}
 use Rattle.np_script.specs.declared.statement.Start.{Start}
@@ -17,12 +18,7 @@ abbrev pub move_in : Statement → Option Motion
 move_in (statement.Begin start) = None
 move_in (statement.Move motion) = Some motion
 
--- the last of these starts, and the first argument where there is none; a script's text has one
-abbrev pub last_or : Option Start → List Start → Option Start
-last_or before [] = before
-last_or before (start ∷ starts) = last_or (Some start) starts
-
--- the start that statements say, and their moves in their order
+-- the start that statements say, the last of several, and their moves in their order; a script's text says one
 unfoldable pub draft_of : List Statement → Draft
 draft_of statements = record { start = last_or None (filter_map start_in statements); moves = filter_map move_in statements }
 

@@ -1,7 +1,7 @@
 -- A text of joined words reads back as these lines and words.
-use Rattle.std.proofs.Common.{◌≡◌, ℕ, ◌<◌, ◌==◌, Bool, true, false, List, [], ◌∷◌, length, map, All, sym, refl, ap, ◌∙◌, append-nil, append_assoc}
+use Rattle.std.proofs.Common.{◌≡◌, ℕ, ◌<◌, ◌==◌, Bool, true, false, List, [], ◌∷◌, ◌++◌, length, map, All, sym, refl, ap, ◌∙◌, append-nil, append_assoc}
 use Rattle.std.proofs.lemmas.List.{length-map}
-use Rattle.std.specs.List.{join_with_byte}
+use Rattle.std.specs.List.{flat_map, join_with_byte}
 use Rattle.std.proofs.lemmas.Bool.{and_parts, not-true, ltb-true}
 use Rattle.std.proofs.lemmas.List.Elements.{All-nil, All-cons, All-append, All-weaker}
 use Rattle.std.proofs.lemmas.List.Sums.{AllPass-from_list_all}
@@ -10,6 +10,11 @@ use Rattle.np_text.proofs.WordLaws.{words_of-append_word}
 use Rattle.np_text.specs.Joined.{AreWords, AreLinesOfWords, is_word_byte, is_word, joined_line, joined_text}
 use Rattle.np_text.specs.Lines.{lines_of}
 use Rattle.np_text.specs.Words.{is_blank, words_of}
+
+-- joined, each after the byte but for the first
+pub join_with_byte-flat_map : (c : ℕ) (x : List ℕ) (xs : List (List ℕ)) → join_with_byte c (x ∷ xs) ≡ x ++ flat_map (λ y. c ∷ y) xs
+join_with_byte-flat_map c x [] = sym (append-nil x)
+join_with_byte-flat_map c x (y ∷ xs) = ap (λ l. x ++ (c ∷ l)) (join_with_byte-flat_map c y xs)
 
 -- what a word is made of
 word_some : (word : List ℕ) → is_word word ≡ true → 0 < length word

@@ -1,5 +1,5 @@
 -- Texts that are made of words: each line's words joined by one space.
-use Rattle.std.specs.Prelude.{◌≡◌, ℕ, ◌==◌, ◌&&◌, not, Bool, true, nat_lt, List, [], ◌∷◌, ◌++◌, length, if◌then◌else◌}
+use Rattle.std.specs.Prelude.{◌≡◌, ℕ, ◌==◌, ◌&&◌, not, Bool, true, false, nat_lt, List, [], ◌∷◌, ◌++◌, length, map, if◌then◌else◌}
 use Rattle.std.specs.List.{AllByRecursion, flat_map, list_all, join_with_byte}
 use Rattle.np_text.specs.Words.{is_blank}
 
@@ -26,3 +26,7 @@ joined_line indented words = if indented then 32 ∷ join_with_byte 32 words els
 -- such lines, each ended by the byte 10
 abbrev pub joined_text : List (Bool × List (List ℕ)) → List ℕ
 joined_text lines = flat_map (λ line. joined_line line.0 line.1 ++ 10 ∷ []) lines
+
+-- lines of words as a text: the words of each joined by one space, and each ended by the byte 10
+abbrev pub text_of_lines : List (List (List ℕ)) → List ℕ
+text_of_lines lines = joined_text (map (λ words. (false, words)) lines)

@@ -1,12 +1,13 @@
 use Rattle.std.proofs.Common.{◌++◌, sym, ap, ◌∙◌}
 use Rattle.std.proofs.lemmas.List.{append-nil}
-use Rattle.np_generate.specs.NetLines.{chord_lines, text_of}
+use Rattle.np_text.specs.Joined.{text_of_lines}
+use Rattle.np_generate.specs.NetLines.{chord_lines}
 use Rattle.np_generate.proofs.LineLaws.{moved, chord_next, chord_state, chords_begin, chords_end}
 use Rattle.np_generate.proofs.net_lines.put_chords.Goals as goal
 
 pub loop-k-init : goal.loop-k-init
 loop-k-init c = record {
-  text = ap (λ drawn. c.args.out.now.items ++ text_of (chord_lines 16 drawn.0)) (chords_begin c.args.draws.now.state);
+  text = ap (λ drawn. c.args.out.now.items ++ text_of_lines (chord_lines 16 drawn.0)) (chords_begin c.args.draws.now.state);
   state = ap (λ drawn. drawn.1) (chords_begin c.args.draws.now.state);
 }
 

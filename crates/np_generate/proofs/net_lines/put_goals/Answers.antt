@@ -1,12 +1,13 @@
 use Rattle.std.proofs.Common.{◌++◌, sym, ap, ◌∙◌}
 use Rattle.std.proofs.lemmas.List.{append-nil}
-use Rattle.np_generate.specs.NetLines.{goal_lines, text_of}
+use Rattle.np_text.specs.Joined.{text_of_lines}
+use Rattle.np_generate.specs.NetLines.{goal_lines}
 use Rattle.np_generate.proofs.LineLaws.{moved, goal_next, goal_state, goals_begin, goals_end}
 use Rattle.np_generate.proofs.net_lines.put_goals.Goals as goal
 
 pub loop-k-init : goal.loop-k-init
 loop-k-init c = record {
-  text = ap (λ drawn. c.args.out.now.items ++ text_of (goal_lines 0 drawn.0)) (goals_begin c.args.draws.now.state);
+  text = ap (λ drawn. c.args.out.now.items ++ text_of_lines (goal_lines 0 drawn.0)) (goals_begin c.args.draws.now.state);
   state = ap (λ drawn. drawn.1) (goals_begin c.args.draws.now.state);
 }
 

@@ -133,7 +133,8 @@ def shared():
     entries += ''.join(f'access-list 100 deny tcp host {address(k * 4099)} any\n' for k in range(20000))
     for name, line, first in [('of !', b'!\n', b''), ('of lines of one word', b'a\n', b''), ('of 20,000 entries and !', b'!\n', entries.encode())]:
         config = lambda line=line, first=first: full(line, first)
-        yield f'256 devices, one file {name}', {'net': net, 'r.cfg': config}, ['check', 'net'], None
+        for command in ('check', 'notes'):
+            yield f'256 devices, one file {name}: {command}', {'net': net, 'r.cfg': config}, [command, 'net'], None
 
 
 # Prints names of 9 bytes whose hashes, as the kit's maps make them, end in 16 bits 0. Finding them takes some seconds.

@@ -5,7 +5,7 @@ Usage: bench/refuse_memory.py PROGRAM [MOST]
 
 Each run below is made once with ample memory, to count its allocations, and then once for each of them: that one is
 refused, as `malloc` or `realloc` refuses it, and the ones after it are not. The run has to end with status 6 and write
-nothing, or to end and write as with ample memory. Where a run makes more than MOST allocations, 20,000 by default, the
+nothing, or to end and write as with ample memory. Where a run makes more than MOST allocations, 25,000 by default, the
 first half of so many are refused, and as many others at equal distances. The last line counts the wrong ones.
 
 The program is the one that is named, unchanged on disk. It is stopped at the start of `main` by ptrace; its own entries
@@ -173,7 +173,7 @@ def refused(count, most):
 
 def main():
     program = Program(os.path.abspath(sys.argv[1]))
-    most = int(sys.argv[2]) if len(sys.argv) > 2 else 20000
+    most = int(sys.argv[2]) if len(sys.argv) > 2 else 25000
     tried = wrongs = 0
     for files, words in RUNS:
         # Words that an older program doesn't know.

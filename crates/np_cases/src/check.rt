@@ -100,8 +100,24 @@ interface e1
 access-list 100 deny ip any any
 ";
 
+/// Two devices that name one file, and between them one without.
+const ONE_FILE: &str = "area out 0.0.0.0/0
+area mid 10.1.0.0/16
+area lan 10.0.0.0/8
+device s config r.cfg
+device t
+device r config r.cfg
+interface s e0 out
+interface s e1 mid
+interface r e0 lan
+interface r e1 mid
+goal out lan never tcp
+goal lan mid never tcp
+goal mid lan never tcp
+";
+
 /// Networks, a configuration and its file, and the report.
-const REPORTS: [(&str, &str, &str, &str, u8); 11] = [
+const REPORTS: [(&str, &str, &str, &str, u8); 12] = [
     (
         OPEN,
         "r.cfg",
@@ -164,6 +180,13 @@ const REPORTS: [(&str, &str, &str, &str, u8); 11] = [
         "interface e0\n ip access-group 100 in\naccess-list 100 deny tcp any any\naccess-list 100 permit ip any any\n",
         "goal 1 holds\nholds\n",
         0,
+    ),
+    (
+        ONE_FILE,
+        "r.cfg",
+        "interface e0\n ip access-group 100 in\naccess-list 100 deny tcp any any\naccess-list 100 permit ip any any\n",
+        "goal 1 holds\ngoal 2 holds\ngoal 3 violated 0.0.0.0 0.0.0.0 6 0 0 0\nhop r e1 e0\nfails\n",
+        1,
     ),
     ("", "r.cfg", "", "holds\n", 0),
     (

@@ -1,5 +1,6 @@
 -- Cuts that are the tests of lists and predicates, one after another.
-use Rattle.std.proofs.Common.{◌≡◌, Bool, List, [], ◌∷◌, ◌++◌, map, refl, sym, ◌∙◌, ap, append_assoc}
+use Rattle.std.proofs.Common.{◌≡◌, ℕ, zero, suc, ◌<◌, Bool, List, [], ◌∷◌, ◌++◌, length, map, get_or, Some, refl, sym, ◌∙◌, ap, append_assoc, arith}
+use Rattle.std.specs.Prelude.{slice_get}
 use Rattle.std.proofs.lemmas.List.Elements.{All-head, All-tail}
 use Rattle.std.proofs.lemmas.List.{map-append}
 use Rattle.np_space.specs.declared.headers.Header.{Header}
@@ -29,3 +30,18 @@ module _ {S R : Type 0} (fits : S → R → Type 0) (has : S → R → Header �
             ∙ ap (λ l. before ++ l) (sym (map-append test xs (x ∷ [])))
             ∙ ap (λ l. before ++ map test l) (sym more);
       }
+
+  -- the region at the place of a list among those that were made into regions
+  pub cut_at : {X : Type 0} (test : X → Header → Bool) (s : S) (xs : List X) (cuts : List R) (n : ℕ) (x : X) →
+      tests_of has s cuts ≡ map test xs → slice_get xs n ≡ Some x → (n < length cuts) × ((d : R) (h : Header) → has s (get_or cuts n d) h ≡ test x h)
+  cut_at test s [] cuts n x e at = cc
+  cut_at test s (y ∷ ys) [] n x e at = cc
+  cut_at test s (y ∷ ys) (c ∷ cs) zero x e at =
+      let same : y ≡ x = cc in
+      let first : has s c ≡ test y = cc in
+      (omega arith, λ d h. ap (λ f. f h) first ∙ ap (λ z. test z h) same)
+  cut_at test s (y ∷ ys) (c ∷ cs) (suc n) x e at =
+      let others : tests_of has s cs ≡ map test ys = cc in
+      let rest = cut_at test s ys cs n x others at in
+      let within = rest.0 in
+      (omega arith, rest.1)

@@ -3,3 +3,4 @@ pub mod CuttingLaws
 pub mod FieldLaws
 pub mod FilterLaws
 pub mod KeyLaws
+pub mod MakingLaws

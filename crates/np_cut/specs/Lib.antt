@@ -3,3 +3,4 @@ pub mod Cutting
 pub mod FieldTests
 pub mod FilterCuts
 pub mod AppliedLists
+pub mod Making

@@ -8,6 +8,7 @@ mod filtering;
 mod key_set;
 mod keys;
 mod list_regions;
+mod made_regions;
 mod pred_regions;
 
 pub use applied::{Applied, lets};

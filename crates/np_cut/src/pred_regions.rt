@@ -1,6 +1,6 @@
 //! The region of a predicate.
 
-ghost use Rattle.std.specs.Prelude.{◌≡◌, ◌==◌, ◌&&◌, ◌||◌, not, false, IfOk};
+ghost use Rattle.std.specs.Prelude.{◌≡◌, ◌==◌, ◌&&◌, ◌||◌, not, false, IfOk, OnOk};
 ghost use Rattle.np_space.specs.Header.{is_valid_header};
 ghost use Rattle.np_space.specs.Block.{block_has};
 ghost use Rattle.np_space.specs.Span.{span_has};
@@ -9,10 +9,12 @@ ghost use Rattle.np_space.specs.declared.headers.Header.{Header};
 ghost use Rattle.np_pred.specs.Dscp.{dscp_has};
 ghost use Rattle.np_pred.specs.Meaning.{has_ports, pred_holds};
 ghost use Rattle.np_region.specs.Keeping.{KeepsRegions};
+ghost use Rattle.np_cut.specs.Making.{AreMade};
 
 use crate::field_blocks::{
     of_code_points, of_established, of_first_number, of_protocol, of_second_number,
 };
+use crate::made_regions::{Made, address_region};
 use np_pred::{DscpSpan, Pred};
 use np_region::Regions;
 use np_space::{AddressField, Block, Span, Ternary};
@@ -37,15 +39,6 @@ pub fn source_region<S: Regions>(store: &mut S, patterns: &[Ternary]) -> Result<
     ensures exact { IfOk result (λ x. (h : Header) → S.has_header store.new x h ≡ (is_valid_header h && any_pattern_has patterns.now h.src)) }
 {
     store.of_addresses(AddressField::Src, patterns)
-}
-
-// The same for destinations.
-fn destination_region<S: Regions>(store: &mut S, patterns: &[Ternary]) -> Result<S::R, AllocError>
-    ensures kept { KeepsRegions S.fits S.has_header store.old store.new }
-    ensures fits { IfOk result (λ x. S.fits store.new x) }
-    ensures exact { IfOk result (λ x. (h : Header) → S.has_header store.new x h ≡ (is_valid_header h && any_pattern_has patterns.now h.dst)) }
-{
-    store.of_addresses(AddressField::Dst, patterns)
 }
 
 // The valid headers of TCP and UDP with a source port in the span.
@@ -112,18 +105,25 @@ fn without<S: Regions>(store: &mut S, operand: S::R) -> Result<S::R, AllocError>
     store.minus(&whole, &operand)
 }
 
-/// Exactly the valid headers for which the predicate holds. Fails only for want of memory.
-pub fn pred_region<S: Regions>(alloc: Global, store: &mut S, p: &Pred) -> Result<S::R, AllocError>
+// The region of a predicate, beside regions that were made before.
+#[tactic(auto, using(crate::proofs::MakingLaws::made_kept))]
+pub(crate) fn pred_region_with<S: Regions>(
+    store: &mut S,
+    made: &mut Vec<Made<S::R>>,
+    p: &Pred,
+) -> Result<S::R, AllocError>
+    requires { AreMade S.fits S.has_header store.old made.old.items }
     ensures kept { KeepsRegions S.fits S.has_header store.old store.new }
     ensures fits { IfOk result (λ x. S.fits store.new x) }
     ensures exact { IfOk result (λ x. (h : Header) → S.has_header store.new x h ≡ (is_valid_header h && pred_holds p.now h)) }
+    ensures made { OnOk result (AreMade S.fits S.has_header store.new made.new.items) }
 {
     match p {
         Pred::Any => store.whole(),
         Pred::Nothing => Ok(store.none()),
         Pred::Proto(number) => store.of_block(&of_protocol(*number)),
-        Pred::Src(patterns) => source_region(store, patterns.as_slice()),
-        Pred::Dst(patterns) => destination_region(store, patterns.as_slice()),
+        Pred::Src(addresses) => address_region(store, made, AddressField::Src, addresses),
+        Pred::Dst(addresses) => address_region(store, made, AddressField::Dst, addresses),
         Pred::SrcPort(ports) => source_ports(store, *ports),
         Pred::DstPort(ports) => destination_ports(store, *ports),
         Pred::IcmpType(number) => icmp_type(store, *number),
@@ -131,18 +131,29 @@ pub fn pred_region<S: Regions>(alloc: Global, store: &mut S, p: &Pred) -> Result
         Pred::Dscp(values) => code_points(store, *values),
         Pred::Established => store.of_block(&of_established()),
         Pred::Not(operand) => {
-            let region = pred_region(alloc, store, operand.get())?;
+            let region = pred_region_with(store, made, operand.get())?;
             without(store, region)
         }
         Pred::And(first, second) => {
-            let x = pred_region(alloc, store, first.get())?;
-            let y = pred_region(alloc, store, second.get())?;
+            let x = pred_region_with(store, made, first.get())?;
+            let y = pred_region_with(store, made, second.get())?;
             store.meet(&x, &y)
         }
         Pred::Or(first, second) => {
-            let x = pred_region(alloc, store, first.get())?;
-            let y = pred_region(alloc, store, second.get())?;
+            let x = pred_region_with(store, made, first.get())?;
+            let y = pred_region_with(store, made, second.get())?;
             store.join(&x, &y)
         }
     }
+}
+
+/// Exactly the valid headers for which the predicate holds. The region of many addresses that stand in it
+/// more than once is made once. Fails only for want of memory.
+pub fn pred_region<S: Regions>(alloc: Global, store: &mut S, p: &Pred) -> Result<S::R, AllocError>
+    ensures kept { KeepsRegions S.fits S.has_header store.old store.new }
+    ensures fits { IfOk result (λ x. S.fits store.new x) }
+    ensures exact { IfOk result (λ x. (h : Header) → S.has_header store.new x h ≡ (is_valid_header h && pred_holds p.now h)) }
+{
+    let mut made = Vec::new(alloc);
+    pred_region_with(store, &mut made, p)
 }

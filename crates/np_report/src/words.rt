@@ -1,6 +1,6 @@
 //! Words and lines that several reports have.
 
-ghost use Rattle.std.specs.Prelude.{◌≡◌, ◌++◌, ◌∷◌, ◌<◌, [], length, OnOk, OnErr};
+ghost use Rattle.std.specs.Prelude.{◌≡◌, ◌++◌, ◌∷◌, ◌<◌, [], length, codes, OnOk, OnErr};
 ghost use Rattle.std.specs.Fmt.{decimal};
 ghost use Rattle.std.specs.List.{All};
 ghost use Rattle.np_text.specs.Addresses.{dotted};
@@ -43,16 +43,25 @@ fn put_address_word(text: &mut Vec<u8>, address: u32) -> Result<(), AllocError>
     put_address(text, address)
 }
 
+// Appends the word of a code point after a space.
+fn put_dscp_word(text: &mut Vec<u8>, dscp: u8) -> Result<(), AllocError>
+    ensures ok { OnOk result (text.new.items ≡ text.old.items ++ 32 ∷ (codes "dscp=" ++ decimal dscp)) }
+    ensures err { OnErr result (AppendsFront text.old.items text.new.items (32 ∷ (codes "dscp=" ++ decimal dscp))) }
+{
+    put_word(text, b"dscp=")?;
+    put_number(text, u64::from(dscp))
+}
+
 // Appends the word of a code point after a space, or nothing where it is 0.
 fn put_dscp(text: &mut Vec<u8>, dscp: u8) -> Result<(), AllocError>
     ensures ok { OnOk result (text.new.items ≡ text.old.items ++ spaced (dscp_words dscp)) }
     ensures err { OnErr result (AppendsFront text.old.items text.new.items (spaced (dscp_words dscp))) }
 {
     if dscp == 0 {
-        return Ok(());
+        Ok(())
+    } else {
+        put_dscp_word(text, dscp)
     }
-    put_word(text, b"dscp=")?;
-    put_number(text, u64::from(dscp))
 }
 
 // Appends the words of a header's addresses and of its protocol, each after a space.

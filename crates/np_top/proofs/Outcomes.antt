@@ -10,10 +10,12 @@ use Rattle.np_top.specs.Commands.{Command, check, atoms, synth, ipsec, trace, sh
 use Rattle.np_top.specs.Report.{usage_text, verdicts_status}
 use Rattle.np_goals.specs.declared.verdicts.Verdict.{Verdict}
 use Rattle.np_report.specs.Verdicts.{all_hold}
+use Rattle.np_load.specs.CleanRun.{IsCleanRun}
+use Rattle.np_load.proofs.CleanLaws.{clean_run}
 use Rattle.np_load.specs.Inputs.{Inputs, Play, inputs_of, play_of}
 use Rattle.np_load.specs.Noting.{Noted, noted_of}
 use Rattle.np_load.specs.Saying.{net_says}
-use Rattle.np_top.specs.Outcome.{IsAnswer, IsAnswerTo, IsCheckReportOn, IsAtomsReportOn, IsSynthesisReportOn, IsTraceReportOn, HasFiles, ReadsFiles, AreOfFiles, IsAccepted, AcceptsFiles, AreAccepted, IsOutcome, IsDefined, IsMaximalOn, IsMaximalFor, IsMaximalOutcome, IsTrajectoryOn, IsTrajectoryFor, IsTrajectoryOutcome, IsSafeOn, IsSafeFor, IsSafeOutcome, IsOneOutcome}
+use Rattle.np_top.specs.Outcome.{IsAnswer, IsAnswerTo, IsCheckReportOn, IsAtomsReportOn, IsSynthesisReportOn, IsTraceReportOn, HasFiles, ReadsFiles, AreOfFiles, IsAccepted, AcceptsFiles, AreAccepted, IsOutcome, IsDefined, IsMaximalOn, IsMaximalFor, IsMaximalOutcome, IsTrajectoryOn, IsTrajectoryFor, IsTrajectoryOutcome, IsSafeOn, IsSafeFor, IsSafeOutcome, IsCleanFor, IsCleanOutcome, IsOneOutcome}
 use Rattle.np_top.specs.Ipsec.{IsIpsecReport}
 use Rattle.np_top.specs.Notes.{notes_status, IsNotesReport}
 use Rattle.np_top.specs.Show.{IsCanonical}
@@ -302,3 +304,38 @@ written_safe files command result old new report w = (w.0, safe_for files comman
 pub safe_command : (words : List (List ℕ)) (files : Files) (command : Command) (old new : Option (List ℕ)) → Some command ≡ command_of words →
     (text : List ℕ) × IsSafeFor files command text × Took old new text → (text : List ℕ) × IsSafeOutcome words files text × Took old new text
 safe_command words files command old new fits w = (w.0, rw (← fits) w.1, w.2)
+
+-- ---- notes that end with status 0
+
+-- with status 0 there is no note
+no_note : (clean : Bool) → Holds ≡ notes_status clean → clean ≡ true
+no_note true is = refl
+no_note false is = let differ : Holds ≡ Fails = is in absurd (cc)
+
+-- where there is none, each configuration is clean
+clean_on : (files : Files) (file text : List ℕ) → IsAnswer IsNotesReport (noted_of files file) text Holds → IsCleanRun files file
+clean_on files file text answer = by (noted_of files file) refl answer where
+  by : (says : Option (Result Noted (List ℕ))) → noted_of files file ≡ says → IsAnswer IsNotesReport says text Holds → IsCleanRun files file
+  by None is answer = absurd answer
+  by (Some (Err refusal)) is answer = let differ : Holds ≡ Refused = answer.1 in absurd (cc)
+  by (Some (Ok noted)) is answer = clean_run files file noted is (no_note noted.clean answer.1)
+
+-- so it is for any command
+pub clean_for : (files : Files) (command : Command) (text : List ℕ) → IsAnswerTo files command text Holds → IsCleanFor files command
+clean_for files (check file) text answer = tt
+clean_for files (atoms file) text answer = tt
+clean_for files (synth file) text answer = tt
+clean_for files (ipsec file) text answer = tt
+clean_for files (trace file script) text answer = tt
+clean_for files (show file) text answer = tt
+clean_for files (notes file) text answer = clean_on files file text answer
+clean_for files (gen seed) text answer = tt
+
+-- what is written whole with this status says it
+pub written_clean : (files : Files) (command : Command) (result : Status) (old new : Option (List ℕ)) → result ≡ Holds →
+    (text : List ℕ) × IsAnswerTo files command text result × Took old new text → IsCleanFor files command
+written_clean files command result old new is w = clean_for files command w.0 (subst (IsAnswerTo files command w.0) is w.1)
+
+-- what is clean for a command is so for its words
+pub clean_command : (words : List (List ℕ)) (files : Files) (command : Command) → Some command ≡ command_of words → IsCleanFor files command → IsCleanOutcome words files
+clean_command words files command fits clean = rw (← fits) clean

@@ -3,6 +3,7 @@ use Rattle.std.specs.Prelude.{◌≡◌, ℕ, List, Option, Some, None, Result, 
 use Rattle.std.specs.String.{string_bytes}
 use Rattle.std.specs.declared.alloc.Global.{Global}
 use Rattle.np_outside.specs.Files.{Files}
+use Rattle.np_load.specs.CleanRun.{IsCleanRun}
 use Rattle.np_load.specs.Inputs.{Inputs, Play, inputs_of, play_of}
 use Rattle.np_load.specs.Noting.{noted_of}
 use Rattle.np_load.specs.Saying.{net_says}
@@ -169,6 +170,21 @@ IsSafeFor files (gen seed) text = Unit {0}
 -- Where the words ask about IPsec goals, each yes is safe.
 abbrev pub IsSafeOutcome : List (List ℕ) → Files → List ℕ → Type 0
 IsSafeOutcome words files text = MatchOption (command_of words) (Unit {0}) (λ command. IsSafeFor files command text)
+
+-- for a report on notes that ends with status 0: each configuration is clean
+abbrev pub IsCleanFor : Files → Command → Type 0
+IsCleanFor files (check file) = Unit {0}
+IsCleanFor files (atoms file) = Unit {0}
+IsCleanFor files (synth file) = Unit {0}
+IsCleanFor files (ipsec file) = Unit {0}
+IsCleanFor files (trace file script) = Unit {0}
+IsCleanFor files (show file) = Unit {0}
+IsCleanFor files (notes file) = IsCleanRun files file
+IsCleanFor files (gen seed) = Unit {0}
+
+-- Where the words ask for notes, each configuration is clean.
+abbrev pub IsCleanOutcome : List (List ℕ) → Files → Type 0
+IsCleanOutcome words files = MatchOption (command_of words) (Unit {0}) (λ command. IsCleanFor files command)
 
 -- There is one outcome at most, and there is one exactly where the files that it needs are there.
 pub record IsOneOutcome : Type 0 where

@@ -6,7 +6,7 @@ ghost use Rattle.np_outside.specs.Files.{Files};
 ghost use Rattle.np_load.specs.Keeping.{KeepsShelf};
 ghost use Rattle.np_region.specs.Keeping.{KeepsRegions};
 ghost use Rattle.np_top.specs.Commands.{command_in, command_of};
-ghost use Rattle.np_top.specs.Outcome.{texts_of, AcceptsFiles, AreAccepted, AreOfFiles, HasFiles, ReadsFiles, IsAnswerTo, IsMaximalOutcome, IsMaximalFor, IsSafeFor, IsSafeOutcome, IsTrajectoryFor, IsTrajectoryOutcome, IsOutcome, IsDefined};
+ghost use Rattle.np_top.specs.Outcome.{texts_of, AcceptsFiles, AreAccepted, AreOfFiles, HasFiles, ReadsFiles, IsAnswerTo, IsMaximalOutcome, IsMaximalFor, IsSafeFor, IsSafeOutcome, IsCleanFor, IsCleanOutcome, IsTrajectoryFor, IsTrajectoryOutcome, IsOutcome, IsDefined};
 ghost use Rattle.np_top.specs.Report.{usage_text};
 ghost use Rattle.np_top.specs.Status.{IsReport, IsSettled, IsUnlessFault};
 ghost use Rattle.np_top.specs.Written.{Took, TookPrefix};
@@ -73,6 +73,7 @@ fn run_command<R: Threads + Sync, G: Atomizer, S: Shelf, K: Sink, T: Gate + Sync
         (text : List ℕ) × IsTrajectoryFor files (command_in command.entry) text × Took (K.taken sink.old) (K.taken sink.new) text }
     ensures safe { IsReport result → (files : Files) → S.files shelf.old ≡ Some files →
         (text : List ℕ) × IsSafeFor files (command_in command.entry) text × Took (K.taken sink.old) (K.taken sink.new) text }
+    ensures clean { result ≡ Status.Holds → (files : Files) → S.files shelf.old ≡ Some files → IsCleanFor files (command_in command.entry) }
 
     ensures shelf { KeepsShelf S.files S.cap S.faults S.breaks shelf.old shelf.new }
     ensures faults_cap { K.cap sink.new ≡ K.cap sink.old }
@@ -151,6 +152,8 @@ pub fn run_in<R: Threads + Sync, G: Atomizer, S: Shelf, K: Sink, T: Gate + Sync>
     // Where the report on IPsec goals is written, no state of any trajectory of any depth breaks a goal whose answer is yes.
     ensures safe { IsReport result → (files : Files) → S.files shelf.old ≡ Some files →
         (text : List ℕ) × IsSafeOutcome (texts_of words.now) files text × Took (K.taken sink.old) (K.taken sink.new) text }
+    // Where `notes` ends with status 0, nothing that may matter was passed over in any configuration of the network's devices.
+    ensures clean { result ≡ Status.Holds → (files : Files) → S.files shelf.old ≡ Some files → IsCleanOutcome (texts_of words.now) files }
 
     // What the shelf and the sink tell stays, and their counts do not fall.
     ensures files { S.files shelf.new ≡ S.files shelf.old }
@@ -243,6 +246,8 @@ pub fn run<R: Threads + Sync, S: Shelf, K: Sink>(
     // Where the report on IPsec goals is written, no state of any trajectory of any depth breaks a goal whose answer is yes.
     ensures safe { IsReport result → (files : Files) → S.files shelf.old ≡ Some files →
         (text : List ℕ) × IsSafeOutcome (texts_of words.now) files text × Took (K.taken sink.old) (K.taken sink.new) text }
+    // Where `notes` ends with status 0, nothing that may matter was passed over in any configuration of the network's devices.
+    ensures clean { result ≡ Status.Holds → (files : Files) → S.files shelf.old ≡ Some files → IsCleanOutcome (texts_of words.now) files }
 
     // What the shelf and the sink tell stays, and their counts do not fall.
     ensures files { S.files shelf.new ≡ S.files shelf.old }

@@ -2,7 +2,7 @@ use Rattle.std.proofs.Common.{sym, subst}
 use Rattle.np_top.specs.Commands.{command_in}
 use Rattle.np_top.specs.Outcome.{IsAnswerTo}
 use Rattle.np_top.specs.Status.{IsSettled}
-use Rattle.np_top.proofs.Outcomes.{one_answer_to, written_whole, written_part, written_only, written_complete, written_maximal, written_trajectory, written_safe, reported}
+use Rattle.np_top.proofs.Outcomes.{one_answer_to, written_whole, written_part, written_only, written_complete, written_maximal, written_trajectory, written_safe, written_clean, reported}
 use Rattle.np_top.proofs.TraceLaws.{report_settled}
 use Rattle.np_top.proofs.top.run_command.Goals as goal
 
@@ -44,3 +44,9 @@ returns-in-Ok-clause-safe g c = λ is files told.
     written_safe files (command_in c.args.command) c.write.result _ _ is
     (written_whole (IsAnswerTo files (command_in c.args.command)) c.in-Ok.answer.text c.in-Ok.answer.status c.write.result _ _ _
     (c.in-Ok.ensures.ok files told) (rw c.as_slice.ensures at c.write.ensures.written) (report_settled c.write.result is).0)
+
+pub returns-in-Ok-clause-clean : goal.returns-in-Ok-clause-clean
+returns-in-Ok-clause-clean g c = λ is files told.
+    written_clean files (command_in c.args.command) c.write.result _ _ is
+    (written_whole (IsAnswerTo files (command_in c.args.command)) c.in-Ok.answer.text c.in-Ok.answer.status c.write.result _ _ _
+    (c.in-Ok.ensures.ok files told) (rw c.as_slice.ensures at c.write.ensures.written) (subst IsSettled (sym is) tt))

@@ -2,7 +2,7 @@ use Rattle.np_top.specs.declared.status.Status.TheVariants.{Usage}
 use Rattle.np_top.specs.Commands.{command_in}
 use Rattle.np_top.specs.Outcome.{texts_of, IsOutcome}
 use Rattle.np_top.specs.Report.{usage_text}
-use Rattle.np_top.proofs.Outcomes.{usage_outcome, answer_outcome, of_files, written_whole, written_part, complete_outcome, maximal_command, trajectory_command, safe_command, accepted_command, none_accepted}
+use Rattle.np_top.proofs.Outcomes.{usage_outcome, answer_outcome, of_files, written_whole, written_part, complete_outcome, maximal_command, trajectory_command, safe_command, clean_command, accepted_command, none_accepted}
 use Rattle.np_top.proofs.top.run_in.Goals as goal
 
 pub returns-in_default-clause-outcome : goal.returns-in_default-clause-outcome
@@ -49,3 +49,7 @@ returns-clause-trajectory g c = λ is files told.
 pub returns-clause-safe : goal.returns-clause-safe
 returns-clause-safe g c = λ is files told.
     safe_command (texts_of c.args.words.now) files (command_in c.in-Some.command) _ _ c.in-Some.ensures (c.run_command.ensures.safe is files told)
+
+pub returns-clause-clean : goal.returns-clause-clean
+returns-clause-clean g c = λ is files told.
+    clean_command (texts_of c.args.words.now) files (command_in c.in-Some.command) c.in-Some.ensures (c.run_command.ensures.clean is files told)

@@ -1,6 +1,6 @@
 //! The entries of access lists.
 
-ghost use Rattle.std.specs.Prelude.{◌≡◌, IfOk};
+ghost use Rattle.std.specs.Prelude.{◌≡◌, ◌↔◌, IsTrue, IfOk};
 
 use crate::ports::Ports;
 use np_space::{Header, Span, Ternary};
@@ -10,7 +10,7 @@ use std::alloc::{AllocError, Global};
 /// has a value that the entry names (Cisco IOS Security Command Reference, `access-list (IP
 /// extended)` and `permit (IP)`). `Entry::any` tests nothing: an entry without words on a field has
 /// in it what `any` has.
-#[derive(Drop)]
+#[derive(PartialEq, Eq, Drop)]
 pub struct Entry {
     /// Whether the headers that match are permitted.
     pub permit: bool,
@@ -68,6 +68,13 @@ impl Entry {
             est: self.est,
             dscp: self.dscp,
         })
+    }
+
+    /// Whether the entry is `other`: each field is the same. It takes no memory.
+    pub fn same_as(&self, other: &Entry) -> bool
+        ensures { IsTrue result ↔ (self.now ≡ other.now) }
+    {
+        self == other
     }
 
     /// Whether the entry matches the header.

@@ -1,6 +1,6 @@
 //! Access lists.
 
-ghost use Rattle.std.specs.Prelude.{◌≡◌, [], ◌∷◌, ◌++◌, IfOk, OnOk, OnErr};
+ghost use Rattle.std.specs.Prelude.{◌≡◌, ◌↔◌, [], ◌∷◌, ◌++◌, IsTrue, IfOk, OnOk, OnErr};
 ghost use Rattle.std.specs.List.{find};
 ghost use Rattle.std.specs.Option.{option_copied};
 ghost use Rattle.np_acl.specs.Entries.{entry_matches};
@@ -83,6 +83,14 @@ impl List {
             copy.push(entry.copy(alloc)?)?;
         }
         Ok(copy)
+    }
+
+    /// Whether the list has the entries of `other`, in the same order. It compares the lengths first,
+    /// and takes no memory.
+    pub fn same_as(&self, other: &List) -> bool
+        ensures { IsTrue result ↔ (self.now ≡ other.now) }
+    {
+        self.as_slice() == other.as_slice()
     }
 
     /// Whether the list permits the header: what the first entry that matches says, and false where

@@ -1,6 +1,6 @@
 //! The ports, types or codes of an entry.
 
-ghost use Rattle.std.specs.Prelude.{◌≡◌, [], ◌∷◌, ◌++◌, IfOk, IfErr, OnOk, OnErr};
+ghost use Rattle.std.specs.Prelude.{◌≡◌, ◌↔◌, [], ◌∷◌, ◌++◌, IsTrue, IfOk, IfErr, OnOk, OnErr};
 ghost use Rattle.np_acl.specs.Spans.{any_number};
 
 use np_space::Span;
@@ -9,7 +9,7 @@ use std::alloc::{AllocError, AllocFailed, Global};
 use std::marker::Model;
 
 /// A span of ports, types or codes in `Ports`.
-#[derive(Drop)]
+#[derive(PartialEq, Eq, Drop)]
 pub struct PortSpan {
     span: Span,
 }
@@ -20,6 +20,8 @@ impl Model for PortSpan {
     ghost Value = { Span };
 
     ghost view = { λ p. p.span };
+
+    ghost inverse = { λ s. record { span = s } };
 }
 
 // What stands in a place that isn't in use.
@@ -53,6 +55,26 @@ impl Model for Ports {
     ghost Value = { List Span };
 
     ghost view = { λ p. p.spans.items };
+}
+
+/// Ports are equal where they are the same spans in the same order.
+impl PartialEq for Ports {
+    ghost use Rattle.std.specs.Cmp.{partial_equiv_from_equiv};
+    ghost use Rattle.np_acl.specs.Same.{equal_ports, equal_ports-equiv};
+
+    ghost eq = { equal_ports };
+
+    ghost laws = { partial_equiv_from_equiv equal_ports-equiv };
+
+    fn eq(&self, other: &Ports) -> bool {
+        self.as_slice() == other.as_slice()
+    }
+}
+
+impl Eq for Ports {
+    ghost use Rattle.np_acl.specs.Same.{equal_ports-equiv};
+
+    ghost laws = { equal_ports-equiv };
 }
 
 impl Ports {
@@ -104,6 +126,13 @@ impl Ports {
         ensures { result ≡ ports_have self.now x }
     {
         self.spans.as_slice().iter().any(|part| part.span().has(x))
+    }
+
+    /// Whether these are the spans of `other`, in the same order. It takes no memory.
+    pub fn same_as(&self, other: &Ports) -> bool
+        ensures { IsTrue result ↔ (self.now ≡ other.now) }
+    {
+        self == other
     }
 
     /// The same spans.

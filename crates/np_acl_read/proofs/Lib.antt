@@ -1,3 +1,4 @@
+pub mod CopyLaws
 pub mod CountingLaws
 pub mod DeclarationLaws
 pub mod EntryLines

@@ -1,6 +1,6 @@
 //! A device's configuration: its access lists, and where they are applied.
 
-ghost use Rattle.std.specs.Prelude.{◌≡◌, ℕ, [], ◌∷◌, ◌++◌, List as ListOf, length, slice_get, option_map, false, None, IsSorted, OnOk, OnErr};
+ghost use Rattle.std.specs.Prelude.{◌≡◌, ℕ, [], ◌∷◌, ◌++◌, List as ListOf, length, slice_get, option_map, false, None, IsSorted, IfOk, OnOk, OnErr};
 ghost use Rattle.std.specs.Map.Iter.{deref_pair};
 ghost use Rattle.std.specs.Cmp.Lexicographic.{slice_cmp};
 ghost use Rattle.std.specs.List.{IsDistinct};
@@ -98,6 +98,18 @@ impl Lists {
         self.lists.insert(name, list)?;
         Ok(())
     }
+
+    /// The same lists in the same order, copied. An error comes only where memory runs out.
+    #[tactic(auto, using(crate::proofs::CopyLaws::next_is_new))]
+    pub fn copy(&self, alloc: Global) -> Result<Lists, AllocError>
+        ensures { IfOk result (λ copy. copy ≡ self.now) }
+    {
+        let mut copy = Lists::new(alloc);
+        for (name, list) in self.lists.iter() {
+            copy.add(name.copy(alloc)?, list.copy(alloc)?)?;
+        }
+        Ok(copy)
+    }
 }
 
 /// A configuration.
@@ -105,6 +117,17 @@ impl Lists {
 pub struct Config {
     pub lists: Lists,
     pub groups: Groups,
+}
+
+impl Config {
+    /// The same configuration, copied. An error comes only where memory runs out.
+    pub fn copy(&self, alloc: Global) -> Result<Config, AllocError>
+        ensures { IfOk result (λ copy. copy ≡ self.now) }
+    {
+        let lists = self.lists.copy(alloc)?;
+        let groups = self.groups.copy(alloc)?;
+        Ok(Config { lists, groups })
+    }
 }
 
 /// The configuration of a device without one: no lists and no groups.

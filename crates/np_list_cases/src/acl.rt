@@ -98,6 +98,31 @@ const CODE_POINTS: [(&str, Option<u8>, Option<u8>); 20] = [
     ("64", None, None),
 ];
 
+/// Which field of an entry has another value.
+#[derive(Clone, Copy)]
+enum Change {
+    Permit,
+    Proto,
+    Src,
+    Dst,
+    A,
+    B,
+    Est,
+    Dscp,
+}
+
+/// Each field of an entry, by its name.
+const CHANGES: [(&str, Change); 8] = [
+    ("permit", Change::Permit),
+    ("proto", Change::Proto),
+    ("src", Change::Src),
+    ("dst", Change::Dst),
+    ("a", Change::A),
+    ("b", Change::B),
+    ("est", Change::Est),
+    ("dscp", Change::Dscp),
+];
+
 /// The numbers from the lesser of two to the greater.
 fn span(x: u16, y: u16) -> Span {
     Span {
@@ -250,4 +275,99 @@ fn code_points_by_words(rt: HostRuntime) {
             "{word} as a precedence"
         );
     }
+}
+
+/// An entry for two ranges of source ports and two of destination ports, with this field changed.
+fn changed(alloc: Global, change: Option<Change>) -> Result<Entry, AllocError> {
+    let mut entry = entry(alloc, true, 6, &[(25, 25), (80, 90)])?;
+    entry.a = ports(alloc, &[(0, 7), (1024, 2000)])?;
+    match change {
+        Some(Change::Permit) => entry.permit = false,
+        Some(Change::Proto) => entry.proto = span(6, 17),
+        Some(Change::Src) => entry.src = Ternary::of(0x0a00_0000, 0xff),
+        Some(Change::Dst) => entry.dst = Ternary::of(0, 0x7fff_ffff),
+        Some(Change::A) => entry.a = ports(alloc, &[(0, 7), (1024, 2001)])?,
+        Some(Change::B) => entry.b = ports(alloc, &[(25, 25), (80, 90), (91, 91)])?,
+        Some(Change::Est) => entry.est = span(1, 1),
+        Some(Change::Dscp) => entry.dscp = span(0, 62),
+        None => {}
+    }
+    Ok(entry)
+}
+
+/// A list of `before` entries and then this one.
+fn list_with(alloc: Global, before: usize, last: Entry) -> Result<List, AllocError> {
+    let mut list = List::new(alloc);
+    for _ in 0..before {
+        list.push(entry(alloc, false, 17, &[(53, 53)])?)?;
+    }
+    list.push(last)?;
+    Ok(list)
+}
+
+/// Whether an entry is the same once this field is changed, and whether a list that ends with it is.
+fn same_when(alloc: Global, change: Option<Change>) -> Result<(bool, bool), AllocError> {
+    let one = changed(alloc, None)?;
+    let other = changed(alloc, change)?;
+    let entries = one.same_as(&other);
+    let lists = list_with(alloc, 2, one)?.same_as(&list_with(alloc, 2, other)?);
+    Ok((entries, lists))
+}
+
+#[test]
+fn the_same_entries(rt: HostRuntime) -> Result<(), Fail> {
+    let alloc = rt.alloc();
+    assert_eq!(rt; same_when(alloc, None)?, (true, true));
+    for (field, change) in CHANGES {
+        assert_eq!(rt; same_when(alloc, Some(change))?, (false, false), "{field}");
+    }
+    Ok(())
+}
+
+/// Whether lists of so many entries, each the same, are the same list.
+fn same_lengths(alloc: Global, one: usize, other: usize) -> Result<bool, AllocError> {
+    let mut ones = List::new(alloc);
+    let mut others = List::new(alloc);
+    for _ in 0..one {
+        ones.push(Entry::any(alloc, true)?)?;
+    }
+    for _ in 0..other {
+        others.push(Entry::any(alloc, true)?)?;
+    }
+    Ok(ones.same_as(&others))
+}
+
+#[test]
+fn lists_of_other_lengths(rt: HostRuntime) -> Result<(), Fail> {
+    let alloc = rt.alloc();
+    assert_eq!(rt; same_lengths(alloc, 0, 0)?, true);
+    assert_eq!(rt; same_lengths(alloc, 0, 1)?, false);
+    assert_eq!(rt; same_lengths(alloc, 3, 2)?, false);
+    assert_eq!(rt; same_lengths(alloc, 20_000, 20_000)?, true);
+    Ok(())
+}
+
+/// Whether ports of these spans are the same.
+fn same_ports(
+    alloc: Global,
+    spans: &[(u16, u16)],
+    others: &[(u16, u16)],
+) -> Result<bool, AllocError> {
+    Ok(ports(alloc, spans)?.same_as(&ports(alloc, others)?))
+}
+
+#[test]
+fn the_same_ports(rt: HostRuntime) -> Result<(), Fail> {
+    let alloc = rt.alloc();
+    let three = [(3, 5), (9, 9), (7, 7)];
+    assert_eq!(rt; same_ports(alloc, &three, &three)?, true);
+    assert_eq!(rt; same_ports(alloc, &three, &three[..2])?, false);
+    assert_eq!(rt;
+        same_ports(alloc, &three, &[(3, 5), (7, 7), (9, 9)])?,
+        false,
+        "another order"
+    );
+    assert_eq!(rt; same_ports(alloc, &[(3, 5)], &[(3, 6)])?, false);
+    assert_eq!(rt; same_ports(alloc, &[(3, 5)], &[(2, 5)])?, false);
+    Ok(())
 }

@@ -502,3 +502,60 @@ fn as_many_entries_as_there_may_be(rt: HostRuntime) -> Result<(), Fail> {
     }
     Ok(())
 }
+
+/// Whether the list at this place has the same name and entries in both configurations.
+fn same_list_at(one: &Config, other: &Config, place: usize) -> bool {
+    match (one.lists.at(place), other.lists.at(place)) {
+        (Some((name, list)), Some((other_name, other_list))) => {
+            name == other_name && list.same_as(other_list)
+        }
+        (None, None) => true,
+        _ => false,
+    }
+}
+
+/// Text with three lists and groups, some of them with entries.
+fn lists_and_groups(alloc: Global) -> Result<Config, ConfigError> {
+    let text = format!(in alloc;
+        "access-list 100 deny udp any any eq 53\n{THREE_LISTS}\n{SECTION}{GROUPS}\n"
+    )?;
+    read_config(alloc, text.as_bytes())
+}
+
+#[test]
+fn a_copy_has_the_same_lists(rt: HostRuntime) -> Result<(), Fail> {
+    let config = lists_and_groups(rt.alloc())?;
+    let copy = config.copy(rt.alloc())?;
+    expect_names(&rt, &copy, &["100", "L", "7", "A"]);
+    for place in 0..5 {
+        assert_eq!(rt; same_list_at(&config, &copy, place), true, "{place}");
+    }
+    let udp = Header {
+        b: 53,
+        ..header(0, 17)
+    };
+    assert_eq!(rt; permits(rt.alloc(), &copy, "100", &udp)?, false);
+    assert_eq!(rt; permits(rt.alloc(), &copy, "7", &udp)?, true);
+    Ok(())
+}
+
+#[test]
+fn a_copy_has_the_same_groups(rt: HostRuntime) -> Result<(), Fail> {
+    let copy = lists_and_groups(rt.alloc())?.copy(rt.alloc())?;
+    assert_eq!(rt; copy.groups.count(Way::Inward), 2);
+    assert_eq!(rt; copy.groups.count(Way::Outward), 1);
+    for (interface, way, list) in APPLIED {
+        let name = Name::of(rt.alloc(), interface.as_bytes())?;
+        assert_eq!(rt; is_applied(&copy, &name, way, list), true, "{interface}");
+    }
+    Ok(())
+}
+
+#[test]
+fn a_copy_of_an_empty_configuration(rt: HostRuntime) -> Result<(), Fail> {
+    let copy = empty_config(rt.alloc()).copy(rt.alloc())?;
+    assert_eq!(rt; copy.lists.count(), 0);
+    assert_eq!(rt; copy.groups.count(Way::Inward), 0);
+    assert_eq!(rt; copy.groups.count(Way::Outward), 0);
+    Ok(())
+}

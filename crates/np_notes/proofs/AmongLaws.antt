@@ -73,7 +73,7 @@ named_there front back e =
     ∙ ap (λ b. list_any (bytes_eq e.list) (filter_map list_in front) || (b || list_any (bytes_eq e.list) (filter_map list_in back))) (nat_list_eq_equiv.refl e.list)
     ∙ or_true (list_any (bytes_eq e.list) (filter_map list_in front))
 
-plain_found : (test : List ℕ → Bool) (lists : List (List ℕ × List (ℕ × Entry))) (entries : List (ℕ × Entry)) → lookup test lists ≡ Some entries → lookup test (plain_lists lists) ≡ Some (map (λ entry. entry.1) entries)
+pub plain_found : (test : List ℕ → Bool) (lists : List (List ℕ × List (ℕ × Entry))) (entries : List (ℕ × Entry)) → lookup test lists ≡ Some entries → lookup test (plain_lists lists) ≡ Some (map (λ entry. entry.1) entries)
 plain_found test [] entries found = absurd (cc)
 plain_found test (list ∷ lists) entries found = by (test list.0) (plain_found test lists entries) found where
   by : (b : Bool) → (lookup test lists ≡ Some entries → lookup test (plain_lists lists) ≡ Some (map (λ entry. entry.1) entries)) → cond b (Some list.1) (lookup test lists) ≡ Some entries → cond b (Some (map (λ entry. entry.1) list.1)) (lookup test (plain_lists lists)) ≡ Some (map (λ entry. entry.1) entries)

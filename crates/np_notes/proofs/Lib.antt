@@ -2,6 +2,7 @@ pub mod AmongLaws
 pub mod CleanLaws
 pub mod FactLaws
 pub mod NameLaws
+pub mod NamedLaws
 pub mod PlaceLaws
 pub mod ReadLaws
 pub mod WalkLaws

@@ -15,12 +15,12 @@ use Rattle.np_acl_read.specs.Declaring.{declared_by_config, lists_of, with_name}
 use Rattle.np_notes.specs.declared.group_line.GroupLine.{GroupLine}
 use Rattle.np_notes.specs.declared.note.Note.{Note}
 use Rattle.np_notes.specs.declared.note.Note.TheVariants as notes
-use Rattle.np_notes.specs.declared.walk.Walk.{Walk}
-use Rattle.np_notes.specs.NameNotes.{group_note, group_notes, groups_of, interfaces_named, last_groups, list_note, missing_note, missing_notes}
+use Rattle.np_notes.specs.declared.passed.Passed.{Passed}
+use Rattle.np_notes.specs.NameNotes.{group_note, group_notes, groups_of, interfaces_named, list_note, missing_note, missing_notes}
 use Rattle.np_notes.specs.Naming.{with_each}
 use Rattle.np_notes.specs.Notes.{name_notes}
 use Rattle.np_notes.specs.ReadLines.{ReadLine, statements_of}
-use Rattle.np_notes.specs.Walked.{HasWalked}
+use Rattle.np_notes.specs.Walked.{HasPassed}
 
 -- ---- a list of notes that grows
 
@@ -74,7 +74,7 @@ missing_once [] named = refl
 missing_once (name ∷ interfaces) named =
     (λ i. cons_option (if any_once name named i then None else Some (notes.NoInterface name)) (missing_once interfaces named i))
 
-groups_once : (interfaces : List (List ℕ)) (lists : List (List ℕ × List (ℕ × Entry))) (groups : List GroupLine) → filter_map (group_note (with_each [] interfaces) lists) groups ≡ filter_map (group_note interfaces lists) groups
+pub groups_once : (interfaces : List (List ℕ)) (lists : List (List ℕ × List (ℕ × Entry))) (groups : List GroupLine) → filter_map (group_note (with_each [] interfaces) lists) groups ≡ filter_map (group_note interfaces lists) groups
 groups_once interfaces lists [] = refl
 groups_once interfaces lists (group ∷ groups) =
     (λ i. cons_option (if any_once group.interface interfaces i then list_note group (lookup (bytes_eq group.list) lists) else Some (notes.UnknownInterface group.line group.interface)) (groups_once interfaces lists groups i))
@@ -99,16 +99,12 @@ lists_declared statements = refl
 
 -- ---- the whole
 
--- the notes of groups with the interfaces once each
-pub groups_noted : (before after : List Note) (interfaces known : List (List ℕ)) (lists : List (List ℕ × List (ℕ × Entry))) (groups : List GroupLine) → known ≡ with_each [] interfaces → after ≡ before ++ group_notes known lists groups → after ≡ before ++ group_notes interfaces lists groups
-groups_noted before after interfaces known lists groups is noted =
-    noted ∙ ap (λ k. before ++ group_notes k lists groups) is ∙ ap (λ l. before ++ l) (groups_once interfaces lists (last_groups groups))
-
--- the notes of names after those of lines
-pub names_noted : (before missed after : List Note) (interfaces : List (List ℕ)) (walk : Walk) → missed ≡ before ++ missing_notes interfaces walk.found.named → after ≡ missed ++ group_notes interfaces walk.declared.lists walk.found.groups.items → (lines : List ReadLine) → HasWalked walk lines → after ≡ before ++ name_notes interfaces lines
-names_noted before missed after interfaces walk missing grouped lines walked =
+-- the notes of names, with each name once
+pub names_noted : (before missed after : List Note) (interfaces : List (List ℕ)) (passed : Passed) → before ≡ [] → missed ≡ before ++ missing_notes interfaces passed.named → after ≡ missed ++ filter_map (group_note interfaces passed.declared.lists) passed.groups.items →
+    (lines : List ReadLine) → HasPassed passed lines → after ≡ name_notes interfaces lines
+names_noted before missed after interfaces passed none missing grouped lines had =
     grouped
-    ∙ (λ i. missed ++ group_notes interfaces (walked.declared i).lists (walked.found.groups i))
+    ∙ (λ i. missed ++ filter_map (group_note interfaces (had.declared i).lists) (had.groups i))
     ∙ ap (λ l. missed ++ group_notes interfaces l (groups_of lines)) (lists_declared (statements_of lines))
-    ∙ ap (λ l. l ++ group_notes interfaces (lists_of (statements_of lines)) (groups_of lines)) (missing ∙ ap (λ n. before ++ missing_notes interfaces n) walked.found.named ∙ ap (λ l. before ++ l) (missing_once interfaces (interfaces_named lines)))
-    ∙ append_assoc before (missing_notes interfaces (interfaces_named lines)) (group_notes interfaces (lists_of (statements_of lines)) (groups_of lines))
+    ∙ ap (λ l. l ++ group_notes interfaces (lists_of (statements_of lines)) (groups_of lines))
+    (missing ∙ (λ i. none i ++ missing_notes interfaces (had.named i)) ∙ missing_once interfaces (interfaces_named lines))

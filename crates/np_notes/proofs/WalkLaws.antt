@@ -1,29 +1,37 @@
 -- What is known after one more line.
-use Rattle.std.proofs.Common.{◌≡◌, ℕ, Bool, true, false, List, [], ◌∷◌, ◌++◌, reverse, Option, Some, None, refl, sym, ap, ◌∙◌, append-nil, append_assoc}
-use Rattle.std.specs.Prelude.{not, ◌||◌, fold, Ok, if◌then◌else◌}
+use Rattle.std.proofs.Common.{◌≡◌, ℕ, Bool, true, false, List, [], ◌∷◌, ◌++◌, reverse, Option, Some, None, refl, sym, ap, subst, ◌∙◌, append-nil, append_assoc}
+use Rattle.std.specs.Prelude.{not, ◌&&◌, ◌||◌, fold, Ok, if◌then◌else◌}
 use Rattle.std.specs.List.{cons_option, filter_map, list_any, take_while}
 use Rattle.std.specs.Option.{option_to_list}
 use Rattle.std.proofs.lemmas.List.{reverse-append}
 use Rattle.std.proofs.lemmas.List.Elements.{filter_map-append}
 use Rattle.std.proofs.lemmas.List.Sums.{take_while-cons}
-use Rattle.np_lines.specs.Declaring.{added_if}
+use Rattle.np_text.specs.Lines.{numbered_lines}
+use Rattle.np_text.specs.Words.{words_of}
+use Rattle.np_lines.specs.Declaring.{added_if, lines_give}
+use Rattle.np_lines.specs.Skipping.{is_skipped}
 use Rattle.np_acl_read.specs.declared.declared.Declared.{Declared}
+use Rattle.np_acl_read.specs.declared.declared.Section.{Section}
 use Rattle.np_acl_read.specs.declared.statement.Statement.{Statement}
 use Rattle.np_acl_read.specs.Adding.{added}
-use Rattle.np_acl_read.specs.Declaring.{declared_by_config, with_name}
+use Rattle.np_acl_read.specs.Declaring.{config_with, declared_by_config, with_name}
+use Rattle.np_acl_read.specs.Reading.{config_of}
 use Rattle.np_acl_read.proofs.DeclarationLaws.{declared_one_more}
+use Rattle.np_acl_read.proofs.LineReading.{config_of_numbered}
+use Rattle.np_notes.specs.declared.kinds.Kind.TheVariants as kinds
 use Rattle.np_notes.specs.declared.note.Note.{Note}
+use Rattle.np_notes.specs.declared.passed.Passed.{Passed}
 use Rattle.np_notes.specs.declared.walk.Findings.{Findings}
 use Rattle.np_notes.specs.declared.walk.Walk.{Walk}
 use Rattle.np_notes.specs.Foreign.{begins_foreign_list, goes_on, is_foreign_open, is_outer}
-use Rattle.np_notes.specs.Kinds.{is_interface_kind}
+use Rattle.np_notes.specs.Kinds.{is_interface_kind, is_skipped_kind, kind_of}
 use Rattle.np_notes.specs.LineNotes.{has_strayed, line_notes, line_notes_after, note_of_line, note_of_shape}
-use Rattle.np_notes.specs.NameNotes.{group_in, interface_in, interfaces_named}
+use Rattle.np_notes.specs.NameNotes.{group_in, interface_in, interfaces_named, last_groups}
 use Rattle.np_notes.specs.Naming.{with_each}
 use Rattle.np_acl_read.specs.Judging.{line_says}
-use Rattle.np_notes.specs.ReadLines.{ReadLine, Shape, line_kind, lines_from, read_after, shape_of, statements_of, unless_faulty}
+use Rattle.np_notes.specs.ReadLines.{ReadLine, Shape, line_kind, lines_from, read_after, read_lines, shape_of, statements_of, unless_faulty}
 use Rattle.np_notes.specs.Shaping.{foreign_after, strayed_after}
-use Rattle.np_notes.specs.Walked.{HasFound, HasWalked}
+use Rattle.np_notes.specs.Walked.{HasFound, HasPassed, HasWalked, LeavesOf}
 
 -- ---- one more at the end
 
@@ -111,6 +119,38 @@ found_more old new shape its_note line is noted notes named groups foreign stray
       ∙ sym (gives_more (λ l. group_in l.number l.said) before line);
 }
 
+-- a line that declares nothing of its own has no note, and ends a list of another kind where it is a remark
+pub found_silence : (old new : Findings) (number : ℕ) (bytes : List ℕ) (section : Section) →
+    new.notes.items ≡ old.notes.items → new.named ≡ old.named → new.groups.items ≡ old.groups.items →
+    new.context.foreign ≡ (old.context.foreign && is_skipped_kind (kind_of bytes None)) → new.context.strayed ≡ old.context.strayed →
+    (before : List ReadLine) → HasFound old before → HasFound new (before ++ record { number = number; bytes = bytes; section = section; said = None } ∷ [])
+found_silence old new number bytes section notes named groups foreign strayed before had =
+    found_more old new (shape_of line) None line refl (none (is_skipped 33 (words_of bytes)))
+    (notes ∙ sym (append-nil old.notes.items)) named (groups ∙ sym (append-nil old.groups.items))
+    (foreign ∙ sym (open_after (is_skipped 33 (words_of bytes)) old.context.foreign))
+    (strayed ∙ sym (strays (is_skipped 33 (words_of bytes)))) before had
+  where
+    line : ReadLine
+    line = record { number = number; bytes = bytes; section = section; said = None }
+
+    -- its shape, where it is skipped, and where it is a remark
+    shape : Bool → Shape
+    shape skipped = record (shape_of line) { kind = if skipped then kinds.Skipped else kinds.ListLine }
+
+    none : (skipped : Bool) → None ≡ note_of_shape (shape skipped) section old.context.foreign old.context.strayed
+    none true = refl
+    none false = refl
+
+    open_after : (skipped was : Bool) → foreign_after (shape skipped) was ≡ (was && is_skipped_kind (shape skipped).kind)
+    open_after true true = refl
+    open_after true false = refl
+    open_after false true = refl
+    open_after false false = refl
+
+    strays : (skipped : Bool) → strayed_after (shape skipped) old.context.strayed ≡ old.context.strayed
+    strays true = refl
+    strays false = refl
+
 declared_more : (before : List Statement) (said : Option Statement) → added_if added (declared_by_config before) said ≡ declared_by_config (before ++ option_to_list said)
 declared_more before None = ap declared_by_config (sym (append-nil before))
 declared_more before (Some s) = sym (declared_one_more before s)
@@ -140,3 +180,37 @@ lines_left before declared left line rest next said all split says is whole =
     ∙ ap (λ j. before ++ unless_faulty j (λ s. read_after declared line.0 line.1 s ∷ lines_from (added_if added declared s) rest)) (sym says)
     ∙ ap (λ l. before ++ lines_from declared l) (sym split)
     ∙ whole
+
+-- so what is known after one line more leaves one line less
+pub leaves_more : (walk next : Walk) (number : ℕ) (bytes : List ℕ) (said : Option Statement) →
+    line_says walk.declared bytes ≡ Ok said → next.declared ≡ added_if added walk.declared said →
+    ((before : List ReadLine) → HasWalked walk before → HasWalked next (before ++ read_after walk.declared number bytes said ∷ [])) →
+    (left : List (ℕ × List ℕ)) (all : List ReadLine) → LeavesOf walk ((number, bytes) ∷ left) all → LeavesOf next left all
+leaves_more walk next number bytes said says is more left all had = (
+  had.0 ++ read_after walk.declared number bytes said ∷ [],
+  more had.0 had.1,
+  lines_left had.0 walk.declared ((number, bytes) ∷ left) (number, bytes) left next.declared said all refl says is had.2,
+)
+
+-- before any line all lines of the text are left
+pub leaves_all : (walk : Walk) (lines : List (ℕ × List ℕ)) (text : List ℕ) → HasWalked walk [] → lines ≡ numbered_lines text → LeavesOf walk lines (read_lines text)
+leaves_all walk lines text none all = ([], none, (λ i. lines_from (none.declared i) (all i)))
+
+-- and where no line is left they are those of the text
+pub leaves_none : (walk : Walk) (all : List ReadLine) → LeavesOf walk [] all → HasWalked walk all
+leaves_none walk all had = subst (HasWalked walk) (sym (append-nil had.0) ∙ had.2) had.1
+
+-- before any line the lines give what the text gives
+pub config_begins : (d : Declared) (lines : List (ℕ × List ℕ)) (text : List ℕ) → d ≡ declared_by_config [] → lines ≡ numbered_lines text → lines_give line_says added config_with d lines ≡ config_of text
+config_begins d lines text none all = config_of_numbered d lines text none all
+
+-- ---- after all lines
+
+pub passed_is : (walk : Walk) (passed : Passed) → passed.notes.items ≡ walk.found.notes.items → passed.named ≡ walk.found.named → passed.declared ≡ walk.declared → passed.groups.items ≡ last_groups walk.found.groups.items →
+    (lines : List ReadLine) → HasWalked walk lines → HasPassed passed lines
+passed_is walk passed notes named declared groups lines had = record {
+  notes = notes ∙ had.found.notes;
+  named = named ∙ had.found.named;
+  declared = declared ∙ had.declared;
+  groups = groups ∙ ap last_groups had.found.groups;
+}

@@ -1,11 +1,13 @@
 -- The first words of a line.
-use Rattle.std.proofs.Common.{◌≡◌, ℕ, Bool, false, List, [], ◌∷◌, drop, map, refl, ap, sym, ◌∙◌}
-use Rattle.std.specs.Prelude.{codes}
-use Rattle.std.specs.List.{list_any}
+use Rattle.std.proofs.Common.{◌≡◌, ℕ, ◌<◌, Bool, true, false, List, [], ◌∷◌, arith, drop, length, map, refl, ap, sym, ◌∙◌}
+use Rattle.std.specs.Prelude.{◌&&◌, not, codes}
+use Rattle.std.specs.List.{AllByRecursion, list_all, list_any}
 use Rattle.std.specs.Str.{bytes_eq}
+use Rattle.std.proofs.Math.Bool.{and-true}
 use Rattle.np_text.proofs.WordLaws.{map-placed_words}
-use Rattle.np_text.specs.Words.{placed_words, words_of}
-use Rattle.np_notes.specs.Shape.{is_action, is_exit, word_at}
+use Rattle.np_text.proofs.PlaceLaws.{words_of-runs}
+use Rattle.np_text.specs.Words.{is_blank, placed_words, words_of}
+use Rattle.np_notes.specs.Shape.{are_two, is_action, is_exit, word_at}
 
 -- the words without their places
 abbrev words_in : List (ℕ × List ℕ) → List (List ℕ)
@@ -34,19 +36,21 @@ pub third_word_is : (placed rest last : List (ℕ × List ℕ)) (line third : Li
 third_word_is placed rest last line third all after next is =
     is ∙ ap (λ words. word_at words 0) (next ∙ ap (λ words. drop 1 words) after) ∙ after_next_at (words_in placed) ∙ ap (λ words. word_at words 2) (all_words placed line all)
 
--- a line of one word
-pub exit_alone : (placed rest : List (ℕ × List ℕ)) (line : List ℕ) (word : ℕ × List ℕ) (is : Bool) → placed ≡ placed_words 0 line → placed ≡ word ∷ rest → rest ≡ [] → is ≡ bytes_eq word.1 (codes "exit") → is ≡ is_exit (words_of line)
-exit_alone placed rest line word is all first none same =
-    same ∙ ap (λ words. is_exit words) (sym (ap words_in (first ∙ ap (λ more. word ∷ more) none)) ∙ all_words placed line all)
+-- ---- the one word `exit`
 
--- a line of more words
-pub exit_with_more : (placed rest last : List (ℕ × List ℕ)) (line : List ℕ) (word next : ℕ × List ℕ) → placed ≡ placed_words 0 line → placed ≡ word ∷ rest → rest ≡ next ∷ last → false ≡ is_exit (words_of line)
-exit_with_more placed rest last line word next all first more =
-    ap (λ words. is_exit words) (sym (ap words_in (first ∙ ap (λ after. word ∷ after) more)) ∙ all_words placed line all)
+and_false : (b : Bool) → (b && false) ≡ false
+and_false true = refl
+and_false false = refl
 
--- a line without words
-pub no_exit : (placed : List (ℕ × List ℕ)) (line : List ℕ) → placed ≡ placed_words 0 line → placed ≡ [] → false ≡ is_exit (words_of line)
-no_exit placed line all none = ap (λ words. is_exit words) (sym (ap words_in none) ∙ all_words placed line all)
+-- words with bytes are the one word `exit` where that is the first and the second has no bytes
+exit_in : (words : List (List ℕ)) → AllByRecursion (λ word. (0 < length word) × (list_all (λ b. not (is_blank b)) word ≡ true)) words → is_exit words ≡ are_two (word_at words 0) (word_at words 1) (codes "exit") []
+exit_in [] each = refl
+exit_in (word ∷ []) each = sym (and-true (bytes_eq word (codes "exit")))
+exit_in (word ∷ [] ∷ words) each = absurd (let none : 0 < 0 = each.1.0.0 in omega arith)
+exit_in (word ∷ (b ∷ more) ∷ words) each = sym (and_false (bytes_eq word (codes "exit")))
+
+pub exit_by_two : (line : List ℕ) → is_exit (words_of line) ≡ are_two (word_at (words_of line) 0) (word_at (words_of line) 1) (codes "exit") []
+exit_by_two line = exit_in (words_of line) (words_of-runs line)
 
 -- where no action is left there is none
 pub all_words_are : (placed : List (ℕ × List ℕ)) (line : List ℕ) → placed ≡ placed_words 0 line → list_any is_action (map (λ word. word.1) placed) ≡ list_any is_action (words_of line)

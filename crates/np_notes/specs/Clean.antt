@@ -17,9 +17,17 @@ use Rattle.np_acl_read.specs.declared.statement.Statement.TheVariants as stateme
 use Rattle.np_acl_read.specs.Declaring.{declared_by_config, section_of}
 use Rattle.np_acl_read.specs.Judging.{line_says}
 use Rattle.np_acl_read.specs.Words.{action_word}
+use Rattle.np_net.specs.Plan.{Plan}
+use Rattle.np_net.specs.declared.filtering.Interface.{Interface}
 use Rattle.np_notes.specs.declared.kinds.Kind.TheVariants as kinds
 use Rattle.np_notes.specs.ReadLines.{ReadLine, line_kind, statements_of}
 use Rattle.np_notes.specs.Shape.{are_heading, is_indented, looks_like_entry, word_at}
+
+-- one stands among these
+pub record IsAmong {X : Type 0} (one : X) (all : List X) : Type 0 where
+  pub front : List X
+  pub back : List X
+  pub split : all ≡ front ++ one ∷ back
 
 -- ---- the lines of a configuration
 
@@ -83,12 +91,6 @@ pub record SaysEntry (kind : ListKind) (words : List (List ℕ)) (entry : Entry)
   pub split : (words ≡ action_word permit ∷ rest) ⊎ ((number : List ℕ) × IsTrue (is_numeral number) × (words ≡ number ∷ action_word permit ∷ rest))
   pub means : entry_of kind permit rest ≡ Ok entry
 
--- an entry stands among these
-pub record IsAmong (entry : Entry) (entries : List Entry) : Type 0 where
-  pub front : List Entry
-  pub back : List Entry
-  pub split : entries ≡ front ++ entry ∷ back
-
 -- a line is an entry of this list of the configuration: it stands in the list's section, its words say an entry, and that is among the entries of the list
 pub record IsEntryOf (config : Config) (list : List ℕ) (line : ReadLine) : Type 0 where
   pub kind : ListKind
@@ -120,3 +122,34 @@ pub record IsClean (config : Config) (lines : List ReadLine) : Type 0 where
       opener.said ≡ Some (statement.Section list kind) → AllByRecursion MayStandInList between → IsIndented line → LooksLikeEntry line → IsEntryOf config list line
   pub groups : (before after : List ReadLine) (line : ReadLine) (interface list : List ℕ) (way : Way) → lines ≡ before ++ line ∷ after →
       line.said ≡ Some (statement.Group interface way list) → StandsInSection before interface line
+
+-- ---- names
+
+-- a line opens the section of an interface of this name
+pub record IsOpened (lines : List ReadLine) (name : List ℕ) : Type 0 where
+  pub line : ReadLine
+  pub among : IsAmong line lines
+  pub opens : line.said ≡ Some (statement.Interface name)
+
+-- the device has an interface of this name in the network
+pub record HasInterface (net : Plan) (device : ℕ) (name : List ℕ) : Type 0 where
+  pub interface : Interface
+  pub among : IsAmong interface net.interfaces
+  pub its_device : interface.device ≡ device
+  pub its_name : interface.name ≡ name
+
+-- the configuration has a list of this name, and that has an entry
+pub record HasEntries (config : Config) (list : List ℕ) : Type 0 where
+  pub first : Entry
+  pub others : List Entry
+  pub there : lookup (bytes_eq list) config.lists ≡ Some (first ∷ others)
+
+-- a line applies no list at this interface in this way
+abbrev pub AppliesNone : List ℕ → Way → ReadLine → Type 0
+AppliesNone interface way line = (list : List ℕ) → line.said ≡ Some (statement.Group interface way list) → ⊥
+
+-- What it means that an accepted configuration with these lines, as that of this device, has no note of names: the lines open the section of each of the device's interfaces, and the last line that applies a list at an interface in a way names an interface of the device, and a list that is there and has entries.
+pub record IsNamed (net : Plan) (device : ℕ) (config : Config) (lines : List ReadLine) : Type 0 where
+  pub interfaces : (interface : Interface) → IsAmong interface net.interfaces → interface.device ≡ device → IsOpened lines interface.name
+  pub applied : (before after : List ReadLine) (line : ReadLine) (interface list : List ℕ) (way : Way) → lines ≡ before ++ line ∷ after →
+      line.said ≡ Some (statement.Group interface way list) → AllByRecursion (AppliesNone interface way) after → HasInterface net device interface × HasEntries config list

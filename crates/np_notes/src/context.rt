@@ -1,11 +1,11 @@
 //! What the lines before a line leave open, beside a section.
 
-ghost use Rattle.std.specs.Prelude.{◌≡◌, false};
+ghost use Rattle.std.specs.Prelude.{◌≡◌, ◌&&◌, None, false};
 ghost use Rattle.np_notes.specs.Foreign as foreign;
 ghost use Rattle.np_notes.specs.Shaping.{foreign_after, shape_in, strayed_after};
 ghost use Rattle.np_notes.specs.Kinds as kinds;
 
-use crate::kinds::Kind;
+use crate::kinds::{Kind, silent_kind};
 use crate::line_shape::LineShape;
 
 /// What the lines before a line leave open, beside a section.
@@ -89,6 +89,18 @@ impl Context {
         Context {
             foreign: false,
             strayed: false,
+        }
+    }
+
+    /// The context after a line that declares nothing of its own. Only a remark, which stands in a
+    /// list, ends a list of another kind.
+    pub fn after_silence(&self, line: &[u8]) -> Context
+        ensures foreign { result.foreign ≡ (self.now.foreign && kinds.is_skipped_kind (kinds.kind_of line.now None)) }
+        ensures strayed { result.strayed ≡ self.now.strayed }
+    {
+        Context {
+            foreign: self.foreign && is_skipped(silent_kind(line)),
+            strayed: self.strayed,
         }
     }
 

@@ -63,14 +63,27 @@ fn keep_if_new(
 
 /// The last line for each interface and way, the last one of them first.
 #[tactic(auto, using(crate::proofs::PlaceLaws::last_one, crate::proofs::PlaceLaws::last_start))]
-fn last_groups(alloc: Global, groups: &mut Vec<GroupLine>) -> Result<Vec<GroupLine>, AllocError>
-    ensures { IfOk result (λ kept. reverse kept.items ≡ names.last_groups groups.old.items) }
+fn last_groups_backwards(
+    alloc: Global,
+    mut groups: Vec<GroupLine>,
+) -> Result<Vec<GroupLine>, AllocError>
+    ensures { IfOk result (λ kept. reverse kept.items ≡ names.last_groups groups.items) }
 {
     let mut seen = Places::new(alloc);
     let mut kept = Vec::new(alloc);
     while let Some(group) = groups.pop() {
         keep_if_new(alloc, &mut seen, &mut kept, group)?;
     }
+    Ok(kept)
+}
+
+/// The last line for each interface and way, in the order of the lines. An error comes only where
+/// memory runs out.
+pub fn last_groups(alloc: Global, groups: Vec<GroupLine>) -> Result<Vec<GroupLine>, AllocError>
+    ensures { IfOk result (λ kept. kept.items ≡ names.last_groups groups.items) }
+{
+    let mut kept = last_groups_backwards(alloc, groups)?;
+    kept.as_mut_slice().reverse();
     Ok(kept)
 }
 
@@ -115,33 +128,19 @@ fn group_note(
     }
 }
 
-/// Adds the notes of lines that apply lists, of which the last stands first.
-fn add_notes(
-    alloc: Global,
-    notes: &mut Vec<Note>,
-    known: &NameSet,
-    declared: &Declared,
-    groups: &mut Vec<GroupLine>,
-) -> Result<(), AllocError>
-    ensures { OnOk result (notes.new.items ≡ notes.old.items ++ filter_map (names.group_note known.now declared.now.lists) (reverse groups.old.items)) }
-{
-    while let Some(group) = groups.pop() {
-        add_note(notes, group_note(alloc, known, declared, &group)?)?;
-    }
-    Ok(())
-}
-
-/// Adds the notes of lines that apply lists, for a device with these interfaces. An error comes only
-/// where memory runs out.
+/// Adds the notes of lines that apply lists, each the last one for its interface and way, for a
+/// device with these interfaces. An error comes only where memory runs out.
 pub fn add_group_notes(
     alloc: Global,
     notes: &mut Vec<Note>,
     known: &NameSet,
     declared: &Declared,
-    groups: &mut Vec<GroupLine>,
+    groups: &[GroupLine],
 ) -> Result<(), AllocError>
-    ensures { OnOk result (notes.new.items ≡ notes.old.items ++ names.group_notes known.now declared.now.lists groups.old.items) }
+    ensures { OnOk result (notes.new.items ≡ notes.old.items ++ filter_map (names.group_note known.now declared.now.lists) groups.now) }
 {
-    let mut kept = last_groups(alloc, groups)?;
-    add_notes(alloc, notes, known, declared, &mut kept)
+    for group in groups {
+        add_note(notes, group_note(alloc, known, declared, group)?)?;
+    }
+    Ok(())
 }

@@ -1,6 +1,6 @@
 //! The kinds of a configuration's lines.
 
-ghost use Rattle.std.specs.Prelude.{◌≡◌};
+ghost use Rattle.std.specs.Prelude.{◌≡◌, None};
 ghost use Rattle.np_notes.specs.Kinds.{kind_of};
 
 use np_acl_read::Statement;
@@ -25,15 +25,22 @@ pub enum Kind {
     Other,
 }
 
+/// The kind of a line that declares nothing of its own: it is skipped, or is a remark of a list.
+pub fn silent_kind(line: &[u8]) -> Kind
+    ensures { result ≡ kind_of line.now None }
+{
+    match first_word(line, b'!') {
+        Some(_) => Kind::ListLine,
+        None => Kind::Skipped,
+    }
+}
+
 /// The kind of a line that declares this.
 pub fn kind_of_line(line: &[u8], said: &Option<Statement>) -> Kind
     ensures { result ≡ kind_of line.now said.now }
 {
     match said {
-        None => match first_word(line, b'!') {
-            Some(_) => Kind::ListLine,
-            None => Kind::Skipped,
-        },
+        None => silent_kind(line),
         Some(Statement::Interface(_)) => Kind::Interface,
         Some(Statement::Section { .. }) => Kind::ListSection,
         Some(Statement::Remark(_)) => Kind::NumberedList,

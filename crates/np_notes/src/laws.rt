@@ -4,8 +4,11 @@
 ghost use Rattle.std.specs.Prelude.{◌≡◌, ℕ, List, [], Ok};
 ghost use Rattle.np_acl_read.specs.declared.config.Config.{Config};
 ghost use Rattle.np_acl_read.specs.Reading.{config_of};
-ghost use Rattle.np_notes.specs.Clean.{AreItsLines, IsClean};
+ghost use Rattle.np_net.specs.Plan.{Plan};
+ghost use Rattle.np_notes.specs.Clean.{AreItsLines, IsClean, IsNamed};
 ghost use Rattle.np_notes.specs.LineNotes.{line_notes};
+ghost use Rattle.np_notes.specs.NameNotes.{interfaces_of};
+ghost use Rattle.np_notes.specs.Notes.{name_notes};
 ghost use Rattle.np_notes.specs.ReadLines.{read_lines};
 
 /// The lines of a configuration that is accepted are all lines of its text, and each says what it
@@ -25,4 +28,13 @@ pub fn lines_are_all_lines()
 #[tactic(auto, using(crate::proofs::CleanLaws::clean_is))]
 pub fn clean_means()
     ensures { (text : List ℕ) (config : Config) → config_of text ≡ Ok config → line_notes (read_lines text) ≡ [] → IsClean config (read_lines text) }
+{}
+
+/// What it means that a configuration that is accepted, as that of a device of a network, has no note
+/// of names. Its lines open the section of each of the device's interfaces. And each line that applies
+/// a list, where no later one applies one at the same interface in the same way, names an interface of
+/// the device, and a list of the configuration that has an entry.
+#[tactic(auto, using(crate::proofs::NamedLaws::named_is))]
+pub fn no_note_of_names_means()
+    ensures { (text : List ℕ) (config : Config) (net : Plan) (device : ℕ) → config_of text ≡ Ok config → name_notes (interfaces_of net device) (read_lines text) ≡ [] → IsNamed net device config (read_lines text) }
 {}

@@ -12,10 +12,10 @@ mod missing;
 mod name_set;
 mod names;
 mod note;
-mod noting;
+mod passed;
 mod shape;
 mod shared_name;
 mod walk;
 
 pub use note::Note;
-pub use noting::notes;
+pub use passed::{Passed, read_passed};

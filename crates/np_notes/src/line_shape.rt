@@ -24,6 +24,7 @@ pub struct LineShape<'a> {
 }
 
 /// What notes look at in a line of this number that declares this. It takes no memory.
+#[tactic(auto, using(crate::proofs::WordLaws::exit_by_two))]
 pub fn line_shape<'a>(number: u64, line: &'a [u8], said: &Option<Statement>) -> LineShape<'a>
     ensures { (section : SectionAt) → shape_in result ≡ shape_of (record { number = number; bytes = line.now; section = section; said = said.now }) }
 {
@@ -33,7 +34,7 @@ pub fn line_shape<'a>(number: u64, line: &'a [u8], said: &Option<Statement>) -> 
         kind: kind_of_line(line, said),
         indented: is_indented(line),
         words,
-        exit: is_exit(line),
+        exit: is_exit(&words),
         heading: is_heading(line, &words),
     }
 }

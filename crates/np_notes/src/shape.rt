@@ -1,6 +1,6 @@
 //! What a line looks like: its indentation and its first words.
 
-ghost use Rattle.std.specs.Prelude.{◌≡◌, ◌==◌, ◌&&◌, not, drop, map};
+ghost use Rattle.std.specs.Prelude.{◌≡◌, ◌==◌, ◌&&◌, [], codes, not, drop, map};
 ghost use Rattle.std.specs.List.{find, list_any};
 ghost use Rattle.std.specs.Option.{option_copied};
 ghost use Rattle.np_text.specs.Words.{words_of};
@@ -89,21 +89,6 @@ pub fn looks_like_entry(words: &FirstWords<'_>) -> bool
     begins_entry(words.first) || (is_numeral(words.first) && begins_entry(words.second))
 }
 
-/// Whether a line is the one word `exit`.
-#[tactic(auto, using(crate::proofs::WordLaws::no_exit))]
-pub fn is_exit(line: &[u8]) -> bool
-    ensures { result ≡ shape.is_exit (words_of line.now) }
-{
-    let mut words = words(line);
-    match words.next() {
-        Some(word) => match words.next() {
-            Some(_) => false,
-            None => word.bytes == b"exit".as_slice(),
-        },
-        None => false,
-    }
-}
-
 /// Whether some word of a line is `permit` or `deny`.
 #[tactic(auto, using(crate::proofs::WordLaws::all_words_are))]
 fn has_action(line: &[u8]) -> bool
@@ -121,6 +106,13 @@ fn are_two(words: &FirstWords<'_>, first: &[u8], second: &[u8]) -> bool
     ensures { result ≡ shape.are_two words.now.first.now words.now.second.now first.now second.now }
 {
     words.first == first && words.second == second
+}
+
+/// Whether a line is the one word `exit`: it is the first word, and the second has no bytes.
+pub fn is_exit(words: &FirstWords<'_>) -> bool
+    ensures { result ≡ shape.are_two words.now.first.now words.now.second.now (codes "exit") [] }
+{
+    are_two(words, b"exit", b"")
 }
 
 /// Whether a line's first words are those of a list of another kind than those that are read.

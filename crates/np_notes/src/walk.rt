@@ -1,12 +1,16 @@
 //! A configuration's lines, one after another.
 
-ghost use Rattle.std.specs.Prelude.{◌≡◌, ◌∷◌, ◌++◌, [], List, IfOk, IfSome, OnOk};
+ghost use Rattle.std.specs.Prelude.{◌≡◌, ◌∷◌, ◌++◌, [], ℕ, List, None, Ok, IfErr, IfOk, IfSome, IsOk, OnOk};
 ghost use Rattle.std.specs.Option.{option_to_list};
-ghost use Rattle.np_lines.specs.Declaring.{added_if};
+ghost use Rattle.np_lines.specs.Answers.{IsFaultOf};
+ghost use Rattle.np_lines.specs.Declaring.{added_if, after_line};
+ghost use Rattle.np_acl_read.specs.declared.declared.Section.{Section as SectionAt};
 ghost use Rattle.np_acl_read.specs.Adding.{Fits, added};
+ghost use Rattle.np_acl_read.specs.Judging.{line_says};
+ghost use Rattle.np_acl_read.specs.Reading.{config_of};
 ghost use Rattle.np_notes.specs.NameNotes as names;
 ghost use Rattle.np_notes.specs.ReadLines.{ReadLine, read_after, read_lines};
-ghost use Rattle.np_notes.specs.Walked.{HasFound, HasWalked};
+ghost use Rattle.np_notes.specs.Walked.{HasFound, HasWalked, LeavesOf};
 ghost use Rattle.np_notes.specs.Naming.{with_each};
 
 use crate::context::Context;
@@ -16,7 +20,7 @@ use crate::line_shape::line_shape;
 use crate::name_set::NameSet;
 use crate::note::{Note, add_note};
 use crate::shared_name::SharedName;
-use np_acl_read::{Declared, Section, Statement, line_statement};
+use np_acl_read::{ConfigError, ConfigFault, Declared, Section, Statement, line_statement};
 use np_lines::LineError;
 use np_text::{Name, lines};
 use std::alloc::{AllocError, Global};
@@ -136,25 +140,19 @@ fn add_interface(
     }
 }
 
-/// What is declared with what a line says.
-fn declare(
-    alloc: Global,
-    declared: Declared,
-    said: Option<Statement>,
-) -> Result<Declared, AllocError>
-    requires { IfSome said (Fits declared) }
-    ensures { IfOk result (λ next. next ≡ added_if added declared said) }
-{
-    match said {
-        Some(statement) => declared.with(alloc, statement),
-        None => Ok(declared),
-    }
-}
-
 impl Findings {
-    /// Adds what one more line has, which has this number, stands in this section and says this.
+    /// Adds what a line has that declares nothing of its own: no note, and nothing that notes of
+    /// later lines look at, but where a list of another kind is open.
+    #[tactic(auto, using(crate::proofs::WalkLaws::found_silence))]
+    fn add_silence(&mut self, line: &[u8])
+        ensures { (before : List ReadLine) (number : ℕ) (section : SectionAt) → HasFound self.old before → HasFound self.new (before ++ record { number = number; bytes = line.now; section = section; said = None } ∷ []) }
+    {
+        self.context = self.context.after_silence(line);
+    }
+
+    /// Adds what a line has that declares this, by its number and the section in which it stands.
     #[tactic(auto, using(crate::proofs::WalkLaws::found_more))]
-    fn add_line(
+    fn add_declaring(
         &mut self,
         alloc: Global,
         number: u64,
@@ -174,42 +172,91 @@ impl Findings {
         self.context = self.context.after(&shape);
         Ok(())
     }
+
+    /// Adds what one more line has, which has this number, stands in this section and says this.
+    fn add_line(
+        &mut self,
+        alloc: Global,
+        number: u64,
+        line: &[u8],
+        section: &Section,
+        said: &Option<Statement>,
+    ) -> Result<(), AllocError>
+        ensures { OnOk result ((before : List ReadLine) → HasFound self.old before → HasFound self.new (before ++ record { number = number; bytes = line.now; section = section.now; said = said.now } ∷ [])) }
+    {
+        match said {
+            Some(_) => self.add_declaring(alloc, number, line, section, said),
+            None => {
+                self.add_silence(line);
+                Ok(())
+            }
+        }
+    }
 }
 
-/// What is known after one more line, which has this number and says this.
-#[tactic(auto, using(crate::proofs::WalkLaws::walked_more))]
-fn with_line(
+/// Adds what a line says, where it says something.
+fn declare(
     alloc: Global,
-    walk: Walk,
-    number: u64,
-    line: &[u8],
+    declared: &mut Declared,
     said: Option<Statement>,
-) -> Result<Walk, AllocError>
-    requires { IfSome said (Fits walk.declared) }
-    ensures declared { IfOk result (λ next. next.declared ≡ added_if added walk.declared said) }
-    ensures walked { IfOk result (λ next. (before : List ReadLine) → HasWalked walk before → HasWalked next (before ++ read_after walk.declared number line.now said ∷ [])) }
+) -> Result<(), AllocError>
+    requires { IfSome said (Fits declared.old) }
+    ensures { OnOk result (declared.new ≡ added_if added declared.old said) }
 {
-    let Walk {
-        declared,
-        mut found,
-    } = walk;
-    found.add_line(alloc, number, line, &declared.section, &said)?;
-    let declared = declare(alloc, declared, said)?;
-    Ok(Walk { declared, found })
+    match said {
+        Some(statement) => declared.add(alloc, statement),
+        None => Ok(()),
+    }
 }
 
-/// What is known after all lines of a configuration, up to the first faulty one. An error comes only
-/// where memory runs out.
-pub fn walk_lines(alloc: Global, text: &[u8]) -> Result<Walk, AllocError>
-    ensures { IfOk result (λ walk. HasWalked walk (read_lines text.now)) }
+impl Walk {
+    /// Adds one more line, which has this number and says this.
+    #[tactic(auto, using(crate::proofs::WalkLaws::walked_more))]
+    fn add_line(
+        &mut self,
+        alloc: Global,
+        number: u64,
+        line: &[u8],
+        said: Option<Statement>,
+    ) -> Result<(), AllocError>
+        requires { IfSome said (Fits self.old.declared) }
+        ensures declared { OnOk result (self.new.declared ≡ added_if added self.old.declared said) }
+        ensures walked { OnOk result ((before : List ReadLine) → HasWalked self.old before → HasWalked self.new (before ++ read_after self.old.declared number line.now said ∷ [])) }
+    {
+        let Walk { declared, found } = self;
+        found.add_line(alloc, number, line, &declared.section, &said)?;
+        declare(alloc, declared, said)?;
+        Ok(())
+    }
+
+    /// Reads one more line, which has this number. An error is the line's fault, or want of memory.
+    #[tactic(auto, using(crate::proofs::WalkLaws::leaves_more))]
+    fn read_line(&mut self, alloc: Global, number: u64, line: &[u8]) -> Result<(), ConfigError>
+        ensures after { OnOk result (after_line line_says added self.old.declared number line.now ≡ Ok self.new.declared) }
+        ensures leaves { OnOk result ((left : List (ℕ × List ℕ)) (all : List ReadLine) → LeavesOf self.old ((number, line.now) ∷ left) all → LeavesOf self.new left all) }
+        ensures fault { IfErr result (λ error. IsFaultOf (after_line line_says added self.old.declared number line.now) error) }
+    {
+        match line_statement(alloc, &self.declared, line) {
+            Ok(said) => Ok(self.add_line(alloc, number, line, said)?),
+            Err(LineError::Faulty(why)) => {
+                Err(ConfigError::Fault(ConfigFault { line: number, why }))
+            }
+            Err(LineError::Memory(error)) => Err(ConfigError::Memory(error)),
+        }
+    }
+}
+
+/// What is known after all lines of a configuration. An error is the first faulty line, or want of
+/// memory.
+#[tactic(auto, using(crate::proofs::WalkLaws::config_begins, crate::proofs::WalkLaws::leaves_all, crate::proofs::WalkLaws::leaves_none))]
+pub fn walk_lines(alloc: Global, text: &[u8]) -> Result<Walk, ConfigError>
+    ensures accepted { IfOk result (λ _. IsOk (config_of text.now)) }
+    ensures walked { IfOk result (λ walk. HasWalked walk (read_lines text.now)) }
+    ensures fault { IfErr result (λ error. IsFaultOf (config_of text.now) error) }
 {
     let mut walk = start(alloc);
     for line in lines(text) {
-        match line_statement(alloc, &walk.declared, line.bytes) {
-            Ok(said) => walk = with_line(alloc, walk, line.number, line.bytes, said)?,
-            Err(LineError::Faulty(_)) => return Ok(walk),
-            Err(LineError::Memory(error)) => return Err(error),
-        }
+        walk.read_line(alloc, line.number, line.bytes)?;
     }
     Ok(walk)
 }

@@ -1,5 +1,5 @@
 use Rattle.np_notes.proofs.WalkLaws.{found_more}
-use Rattle.np_notes.proofs.walk.Findings.add_line.Goals as goal
+use Rattle.np_notes.proofs.walk.Findings.add_declaring.Goals as goal
 
 pub returns : goal.returns
 returns c =

@@ -1,5 +1,5 @@
 use Rattle.np_notes.proofs.PlaceLaws.{last_one}
-use Rattle.np_notes.proofs.group_notes.last_groups.Goals as goal
+use Rattle.np_notes.proofs.group_notes.last_groups_backwards.Goals as goal
 
 pub loop-group-preserved : goal.loop-group-preserved
 loop-group-preserved c =

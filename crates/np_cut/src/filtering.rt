@@ -1,6 +1,7 @@
 //! The cuts of a network's filtering: the regions of its lists and of its goals' predicates.
 
 ghost use Rattle.std.specs.Prelude.{◌≡◌, ◌++◌, map, slice_get, Some, IfOk, IfSome};
+ghost use Rattle.np_space.specs.declared.headers.Header.{Header};
 ghost use Rattle.np_region.specs.Keeping.{KeepsRegions, EachFits, tests_of};
 ghost use Rattle.np_cut.specs.FilterCuts.{list_test, list_tests, pred_tests, filter_tests};
 

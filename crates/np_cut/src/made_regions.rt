@@ -1,7 +1,7 @@
 //! Regions of addresses that were made before, so that an area that predicates name again and again is
 //! made once.
 
-ghost use Rattle.std.specs.Prelude.{◌≡◌, IsTrue, IfSome, OnOk, IfOk};
+ghost use Rattle.std.specs.Prelude.{◌≡◌, ◌↔◌, IsTrue, IfSome, OnOk, IfOk};
 ghost use Rattle.np_region.specs.Keeping.{KeepsRegions};
 ghost use Rattle.np_cut.specs.Making.{AreMade, IsOfAddresses};
 
@@ -22,7 +22,7 @@ pub struct Made<R> {
 }
 
 fn is_same_field(field: AddressField, other: AddressField) -> bool
-    ensures { IsTrue result → field ≡ other }
+    ensures { IsTrue result ↔ (field ≡ other) }
 {
     match field {
         AddressField::Src => match other {
@@ -37,7 +37,7 @@ fn is_same_field(field: AddressField, other: AddressField) -> bool
 }
 
 fn are_same(patterns: &[Ternary], others: &[Ternary]) -> bool
-    ensures { IsTrue result → patterns.now ≡ others.now }
+    ensures { IsTrue result ↔ (patterns.now ≡ others.now) }
 {
     patterns == others
 }

@@ -173,3 +173,31 @@ fn a_configuration_that_is_not_there(rt: HostRuntime) -> Result<(), Fail> {
         4,
     )
 }
+
+/// A shelf with two devices between the same areas, both with one configuration file, which denies TCP.
+fn held_twice(alloc: Global) -> Result<MemShelf, AllocError> {
+    let net = filtered(
+        alloc,
+        "never tcp\ndevice s config r.cfg\ninterface s e0 out\ninterface s e1 lan",
+    )?;
+    let config = applied(alloc, TCP_DENIED)?;
+    shelf(alloc, &[("net", net.as_str()), ("r.cfg", config.as_str())])
+}
+
+/// The begin, the read and the last read of each of the two files, and no more: a seventh call would fail.
+#[test]
+fn a_file_of_two_devices_is_read_once(rt: HostRuntime) -> Result<(), Fail> {
+    let mut files = held_twice(rt.alloc())?;
+    files.fail_at(7)?;
+    expect_over(
+        &rt,
+        rt.alloc(),
+        "a file of two devices",
+        &["check", "net"],
+        &mut files,
+        HELD,
+        0,
+    )?;
+    assert_eq!(rt; files.faults(), 0);
+    Ok(())
+}

@@ -1,2 +1,3 @@
 mod Loads
 mod NotedLaws
+pub mod OnceLaws

@@ -10,6 +10,7 @@ ghost use Rattle.np_notes.specs.Places as places;
 use crate::group_line::GroupLine;
 use crate::name_set::NameSet;
 use crate::note::{Note, add_note};
+use crate::shared_name::SharedSet;
 use np_acl::Way;
 use np_acl_read::Declared;
 use std::alloc::{AllocError, Global};
@@ -17,8 +18,8 @@ use std::alloc::{AllocError, Global};
 /// Interfaces and ways.
 #[derive(Drop)]
 pub struct Places {
-    pub inward: NameSet,
-    pub outward: NameSet,
+    pub inward: SharedSet,
+    pub outward: SharedSet,
 }
 
 impl Places {
@@ -28,26 +29,25 @@ impl Places {
         ensures outward { result.outward ≡ [] }
     {
         Places {
-            inward: NameSet::new(alloc),
-            outward: NameSet::new(alloc),
+            inward: SharedSet::new(alloc),
+            outward: SharedSet::new(alloc),
         }
     }
 
     /// Adds the place of a line, and says whether it wasn't there.
-    fn add(&mut self, alloc: Global, group: &GroupLine) -> Result<bool, AllocError>
+    fn add(&mut self, group: &GroupLine) -> Result<bool, AllocError>
         ensures fresh { IfOk result (λ fresh. fresh ≡ not (places.has_place self.old group.now)) }
         ensures added { OnOk result (self.new ≡ places.with_place self.old group.now) }
     {
         match group.way {
-            Way::Inward => self.inward.add(alloc, group.interface.name()),
-            Way::Outward => self.outward.add(alloc, group.interface.name()),
+            Way::Inward => self.inward.add(&group.interface),
+            Way::Outward => self.outward.add(&group.interface),
         }
     }
 }
 
 /// Keeps a line whose place wasn't there before.
 fn keep_if_new(
-    alloc: Global,
     seen: &mut Places,
     kept: &mut Vec<GroupLine>,
     group: GroupLine,
@@ -55,7 +55,7 @@ fn keep_if_new(
     ensures seen { OnOk result (seen.new ≡ places.with_place seen.old group) }
     ensures kept { OnOk result (kept.new.items ≡ kept.old.items ++ (if places.has_place seen.old group then [] else group ∷ [])) }
 {
-    if seen.add(alloc, &group)? {
+    if seen.add(&group)? {
         kept.push(group)?;
     }
     Ok(())
@@ -72,7 +72,7 @@ fn last_groups_backwards(
     let mut seen = Places::new(alloc);
     let mut kept = Vec::new(alloc);
     while let Some(group) = groups.pop() {
-        keep_if_new(alloc, &mut seen, &mut kept, group)?;
+        keep_if_new(&mut seen, &mut kept, group)?;
     }
     Ok(kept)
 }

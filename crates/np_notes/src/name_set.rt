@@ -1,6 +1,6 @@
 //! Sets of names.
 
-ghost use Rattle.std.specs.Prelude.{◌≡◌, [], not, IfOk, OnOk};
+ghost use Rattle.std.specs.Prelude.{◌≡◌, [], OnOk};
 ghost use Rattle.std.specs.List.{list_any};
 ghost use Rattle.std.specs.Str.{bytes_eq};
 ghost use Rattle.np_acl_read.specs.Declaring.{with_name};
@@ -43,16 +43,11 @@ impl NameSet {
         self.names.contains(name)
     }
 
-    /// Adds a name, where it isn't there, and says whether it wasn't. An error comes only where
-    /// memory runs out.
-    pub fn add(&mut self, alloc: Global, name: &Name) -> Result<bool, AllocError>
-        ensures fresh { IfOk result (λ fresh. fresh ≡ not (list_any (bytes_eq name.now) self.old)) }
-        ensures added { OnOk result (self.new ≡ with_name self.old name.now) }
+    /// Adds a name, where it isn't there. An error comes only where memory runs out.
+    pub fn add(&mut self, alloc: Global, name: &Name) -> Result<(), AllocError>
+        ensures { OnOk result (self.new ≡ with_name self.old name.now) }
     {
-        if self.has(name) {
-            return Ok(false);
-        }
         self.names.insert(name.copy(alloc)?)?;
-        Ok(true)
+        Ok(())
     }
 }

@@ -132,10 +132,7 @@ fn add_interface(
     ensures { OnOk result (named.new ≡ with_each named.old (option_to_list (names.interface_in said.now))) }
 {
     match said {
-        Some(Statement::Interface(name)) => {
-            named.add(alloc, name)?;
-            Ok(())
-        }
+        Some(Statement::Interface(name)) => named.add(alloc, name),
         _ => Ok(()),
     }
 }

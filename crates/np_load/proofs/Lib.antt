@@ -1,3 +1,4 @@
 mod Loads
 mod NotedLaws
 pub mod OnceLaws
+pub mod CleanLaws

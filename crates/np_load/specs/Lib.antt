@@ -5,3 +5,4 @@ pub mod Inputs
 pub mod Loaded
 pub mod Loading
 pub mod Noting
+pub mod CleanRun

@@ -1,6 +1,10 @@
 -- What loading gives, beside what files say.
 use Rattle.std.specs.Prelude.{◌≡◌, ℕ, ◌+◌, List, [], ◌∷◌, Option, Some, Result, Ok, Err}
+use Rattle.std.specs.FinMap.{get}
 use Rattle.np_outside.specs.Files.{Files}
+use Rattle.np_acl_read.specs.declared.config.Config.{Config}
+use Rattle.np_notes.specs.ReadLines.{read_lines}
+use Rattle.np_notes.specs.Walked.{HasPassed}
 use Rattle.np_net.specs.Plan.{Plan}
 use Rattle.np_net.specs.declared.filtering.Device.{Device}
 use Rattle.np_lines.specs.declared.fault.LineFault.{LineFault}
@@ -12,10 +16,11 @@ use Rattle.np_load.specs.declared.halt.Halt.{Halt}
 use Rattle.np_load.specs.declared.halt.Halt.TheVariants as halts
 use Rattle.np_load.specs.declared.inputs.Inputs as loaded
 use Rattle.np_load.specs.declared.noted.Noted as gathered
+use Rattle.np_load.specs.declared.noted.ReadFile.{ReadFile}
 use Rattle.np_load.specs.declared.plays.Play as played
 use Rattle.np_load.specs.Inputs.{Inputs, Play, device_says}
 use Rattle.np_load.specs.Noting.{Noted, device_noted, noted_after, nothing}
-use Rattle.np_load.specs.Saying.{and_then}
+use Rattle.np_load.specs.Saying.{and_then, config_says}
 
 -- what was loaded is what is said, and a refusal is the one that is said; a fault and want of memory say nothing
 abbrev pub LoadsAs : {X Y : Type 0} → (X → Y) → Result X Halt → Option (Result Y (List ℕ)) → Type 0
@@ -27,6 +32,10 @@ LoadsAs shown (Err halts.Memory) says = Unit {0}
 -- the same of a value that is as it is said
 abbrev pub Loads : {X : Type 0} → Result X Halt → Option (Result X (List ℕ)) → Type 0
 Loads result says = LoadsAs (λ x. x) result says
+
+-- this halt is the refusal that is said, or a fault or want of memory, which say nothing
+abbrev pub Halts : {X : Type 0} → Halt → Option (Result X (List ℕ)) → Type 0
+Halts {X} halt says = Loads {X = X} (Err halt) says
 
 -- inputs as the program holds them
 abbrev pub inputs_in : loaded.Inputs → Inputs
@@ -54,3 +63,11 @@ abbrev pub notes_say : Files → Plan → ℕ → List Device → Option (Result
 notes_say files net n [] = Some (Ok nothing)
 notes_say files net n (device ∷ devices) =
     and_then (device_notes_say files net n device) (λ one. and_then (notes_say files net (n + 1) devices) (λ more. Some (Ok (noted_after one more))))
+
+-- what is kept of a file that was read: it has an accepted configuration, and this is what its reading passed over
+pub record IsReadOf (files : Files) (read : ReadFile) : Type 0 where
+  pub bytes : List ℕ
+  pub config : Config
+  pub there : get files read.file ≡ Some bytes
+  pub says : config_says files read.file ≡ Some (Ok config)
+  pub passed : HasPassed read.passed (read_lines bytes)

@@ -4,6 +4,7 @@
 mod files;
 mod halt;
 mod inputs;
+pub mod laws;
 mod noted;
 mod plays;
 

@@ -1,25 +1,27 @@
 //! Reading a run's files, for what the readings of its configurations passed over.
 
-ghost use Rattle.std.specs.Prelude.{◌≡◌, ◌≤◌, Some, Ok, IfOk, IsErrOf, IsSome, OnOk, length};
+ghost use Rattle.std.specs.Prelude.{◌≡◌, ◌≤◌, ℕ, List, Some, Ok, IfErr, IfOk, IfSome, IsErrOf, IsSome, OnOk, length};
 ghost use Rattle.np_outside.specs.Counts.{Rose};
 ghost use Rattle.np_outside.specs.Files.{Files};
 ghost use Rattle.np_net.specs.Limits.{declaration_limit};
 ghost use Rattle.np_notes.specs.NameNotes.{interfaces_of};
 ghost use Rattle.np_notes.specs.Notes.{notes_of};
+ghost use Rattle.np_notes.specs.ReadLines.{read_lines};
+ghost use Rattle.np_notes.specs.Walked.{HasPassed};
 ghost use Rattle.np_load.specs.declared.halt.Halt.TheVariants as halts;
 ghost use Rattle.np_load.specs.Keeping.{KeepsShelf};
-ghost use Rattle.np_load.specs.Loading.{LoadsAs, device_notes_say, noted_in, notes_say};
+ghost use Rattle.np_load.specs.Loading.{Halts, IsReadOf, LoadsAs, device_notes_say, noted_in, notes_say};
 ghost use Rattle.np_load.specs.Noting.{file_noted, is_clean, noted_in_file, noted_of, nothing};
 ghost use Rattle.np_load.specs.Noting as noting;
 ghost use Rattle.np_load.specs.Saying.{and_then, config_says};
 
 use crate::files::{config_halt, load_bytes, load_net};
 use crate::halt::Halt;
-use np_acl_read::read_config;
 use np_net::{DevId, Device, Network};
-use np_notes::{Note, notes};
+use np_notes::{Note, Passed, read_passed};
 use np_outside::Shelf;
 use np_report::put_notes;
+use np_text::Name;
 use std::alloc::{AllocError, Global};
 
 /// What the readings of configurations passed over and may matter.
@@ -60,29 +62,45 @@ fn written(alloc: Global, file: &[u8], notes: &[Note]) -> Result<Noted, AllocErr
     })
 }
 
-/// The notes on a text, as the configuration of a device.
+impl Noted {
+    /// Adds other notes after these.
+    fn add(&mut self, more: Noted) -> Result<(), AllocError>
+        ensures { OnOk result (noted_in self.new ≡ noting.noted_after (noted_in self.old) (noted_in more)) }
+    {
+        self.text.extend_from_slice(more.text.as_slice())?;
+        self.clean = self.clean && more.clean;
+        Ok(())
+    }
+}
+
+/// The notes on a configuration as that of a device, by what its reading passed over.
+#[tactic(auto, using(crate::proofs::NotedLaws::both_noted))]
 fn notes_on(
     alloc: Global,
     net: &Network,
     device: DevId,
     file: &[u8],
-    text: &[u8],
+    passed: &Passed,
 ) -> Result<Noted, AllocError>
-    ensures { IfOk result (λ noted. noted_in noted ≡ noted_in_file file.now (notes_of (interfaces_of net.now device) text.now)) }
+    ensures { IfOk result (λ noted. (bytes : List ℕ) → HasPassed passed.now (read_lines bytes) → noted_in noted ≡ noted_in_file file.now (notes_of (interfaces_of net.now device) bytes)) }
 {
-    let notes = notes(alloc, net, device, text)?;
-    written(alloc, file, notes.as_slice())
+    let names = passed.name_notes(alloc, net, device)?;
+    let mut noted = written(alloc, file, passed.line_notes())?;
+    noted.add(written(alloc, file, names.as_slice())?)?;
+    Ok(noted)
 }
 
-/// The notes on the configuration that a file declares for a device.
-fn load_file_notes<S: Shelf>(
-    alloc: Global,
-    shelf: &mut S,
-    net: &Network,
-    device: DevId,
-    file: &[u8],
-) -> Result<Noted, Halt>
-    ensures says { (files : Files) → S.files shelf.old ≡ Some files → LoadsAs noted_in result (and_then (config_says files file.now) (λ config. Some (Ok (file_noted files net.now device file.now)))) }
+/// A configuration's file that was read, by its name, and what its reading passed over.
+#[derive(Drop)]
+pub(crate) struct ReadFile {
+    file: Name,
+    passed: Passed,
+}
+
+/// Reads the configuration in a file.
+fn load_read<S: Shelf>(alloc: Global, shelf: &mut S, file: &[u8]) -> Result<ReadFile, Halt>
+    ensures read { IfOk result (λ read. read.file ≡ file.now × ((files : Files) → S.files shelf.old ≡ Some files → IsReadOf files read)) }
+    ensures halts { IfErr result (λ halt. (files : Files) → S.files shelf.old ≡ Some files → Halts halt (config_says files file.now)) }
 
     ensures failed { IsErrOf result halts.ReadFault → Rose (S.faults shelf.old) (S.faults shelf.new) }
     ensures broken { IsErrOf result halts.ReadFault → (files : Files) → S.files shelf.old ≡ Some files →
@@ -90,10 +108,61 @@ fn load_file_notes<S: Shelf>(
     ensures kept { KeepsShelf S.files S.cap S.faults S.breaks shelf.old shelf.new }
 {
     let bytes = load_bytes(alloc, shelf, file)?;
-    match read_config(alloc, bytes.as_slice()) {
-        Ok(_) => Ok(notes_on(alloc, net, device, file, bytes.as_slice())?),
+    match read_passed(alloc, bytes.as_slice()) {
+        Ok(passed) => Ok(ReadFile {
+            file: Name::of(alloc, file)?,
+            passed,
+        }),
         Err(error) => Err(config_halt(alloc, file, error)?),
     }
+}
+
+/// The configuration in a file, as it was read last where that is the file that was read last.
+fn read_or_kept<S: Shelf>(
+    alloc: Global,
+    shelf: &mut S,
+    last: Option<ReadFile>,
+    file: &[u8],
+) -> Result<ReadFile, Halt>
+    ensures read { IfOk result (λ read. read.file ≡ file.now × ((files : Files) → S.files shelf.old ≡ Some files → IfSome last (IsReadOf files) → IsReadOf files read)) }
+    ensures halts { IfErr result (λ halt. (files : Files) → S.files shelf.old ≡ Some files → Halts halt (config_says files file.now)) }
+
+    ensures failed { IsErrOf result halts.ReadFault → Rose (S.faults shelf.old) (S.faults shelf.new) }
+    ensures broken { IsErrOf result halts.ReadFault → (files : Files) → S.files shelf.old ≡ Some files →
+        IsSome (config_says files file.now) → Rose (S.breaks shelf.old) (S.breaks shelf.new) }
+    ensures kept { KeepsShelf S.files S.cap S.faults S.breaks shelf.old shelf.new }
+{
+    if let Some(read) = last {
+        if read.file.bytes() == file {
+            return Ok(read);
+        }
+    }
+    load_read(alloc, shelf, file)
+}
+
+/// The notes on the configuration that a file declares for a device. It isn't read again where it was
+/// read last.
+fn load_file_notes<S: Shelf>(
+    alloc: Global,
+    shelf: &mut S,
+    net: &Network,
+    device: DevId,
+    file: &[u8],
+    last: &mut Option<ReadFile>,
+) -> Result<Noted, Halt>
+    ensures says { (files : Files) → S.files shelf.old ≡ Some files → IfSome last.old (IsReadOf files) →
+        LoadsAs noted_in result (and_then (config_says files file.now) (λ config. Some (Ok (file_noted files net.now device file.now)))) }
+    ensures last { OnOk result ((files : Files) → S.files shelf.old ≡ Some files → IfSome last.old (IsReadOf files) → IfSome last.new (IsReadOf files)) }
+
+    ensures failed { IsErrOf result halts.ReadFault → Rose (S.faults shelf.old) (S.faults shelf.new) }
+    ensures broken { IsErrOf result halts.ReadFault → (files : Files) → S.files shelf.old ≡ Some files →
+        IsSome (config_says files file.now) → Rose (S.breaks shelf.old) (S.breaks shelf.new) }
+    ensures kept { KeepsShelf S.files S.cap S.faults S.breaks shelf.old shelf.new }
+{
+    let read = read_or_kept(alloc, shelf, last.take(), file)?;
+    let noted = notes_on(alloc, net, device, file, &read.passed)?;
+    *last = Some(read);
+    Ok(noted)
 }
 
 /// The notes on a device's configuration; none without a file.
@@ -103,8 +172,10 @@ fn load_device_notes<S: Shelf>(
     net: &Network,
     n: DevId,
     device: &Device,
+    last: &mut Option<ReadFile>,
 ) -> Result<Noted, Halt>
-    ensures says { (files : Files) → S.files shelf.old ≡ Some files → LoadsAs noted_in result (device_notes_say files net.now n device.now) }
+    ensures says { (files : Files) → S.files shelf.old ≡ Some files → IfSome last.old (IsReadOf files) → LoadsAs noted_in result (device_notes_say files net.now n device.now) }
+    ensures last { OnOk result ((files : Files) → S.files shelf.old ≡ Some files → IfSome last.old (IsReadOf files) → IfSome last.new (IsReadOf files)) }
 
     ensures failed { IsErrOf result halts.ReadFault → Rose (S.faults shelf.old) (S.faults shelf.new) }
     ensures broken { IsErrOf result halts.ReadFault → (files : Files) → S.files shelf.old ≡ Some files →
@@ -112,19 +183,8 @@ fn load_device_notes<S: Shelf>(
     ensures kept { KeepsShelf S.files S.cap S.faults S.breaks shelf.old shelf.new }
 {
     match &device.config {
-        Some(file) => load_file_notes(alloc, shelf, net, n, file.bytes()),
+        Some(file) => load_file_notes(alloc, shelf, net, n, file.bytes(), last),
         None => Ok(nothing(alloc)),
-    }
-}
-
-impl Noted {
-    /// Adds other notes after these.
-    fn add(&mut self, more: Noted) -> Result<(), AllocError>
-        ensures { OnOk result (noted_in self.new ≡ noting.noted_after (noted_in self.old) (noted_in more)) }
-    {
-        self.text.extend_from_slice(more.text.as_slice())?;
-        self.clean = self.clean && more.clean;
-        Ok(())
     }
 }
 
@@ -144,8 +204,9 @@ fn load_each_notes<S: Shelf>(
     ensures kept { KeepsShelf S.files S.cap S.faults S.breaks shelf.old shelf.new }
 {
     let mut noted = nothing(alloc);
+    let mut last = None;
     for n in 0..devices.len() {
-        let more = load_device_notes(alloc, shelf, net, n as DevId, &devices[n])?;
+        let more = load_device_notes(alloc, shelf, net, n as DevId, &devices[n], &mut last)?;
         noted.add(more)?;
     }
     Ok(noted)
@@ -167,7 +228,8 @@ fn load_all_notes<S: Shelf>(alloc: Global, shelf: &mut S, net: &Network) -> Resu
 /// for what the readings of the configurations passed over and may matter.
 ///
 /// It ends as `load_inputs` does, at the first file that is refused or can't be read. One
-/// configuration is kept at a time.
+/// configuration is kept at a time: a file that devices in a row name is read once, for the first of
+/// them.
 pub fn load_notes<S: Shelf>(alloc: Global, shelf: &mut S, file: &[u8]) -> Result<Noted, Halt>
     ensures says { (files : Files) → S.files shelf.old ≡ Some files → LoadsAs noted_in result (noted_of files file.now) }
 

@@ -1,7 +1,8 @@
 use Rattle.std.proofs.Common.{◌≡◌, Some, drop}
+use Rattle.std.specs.Prelude.{IfSome}
 use Rattle.np_outside.specs.Files.{Files}
 use Rattle.np_load.specs.Keeping.{KeepsShelf}
-use Rattle.np_load.specs.Loading.{noted_in, notes_say}
+use Rattle.np_load.specs.Loading.{IsReadOf, noted_in, notes_say}
 use Rattle.np_load.proofs.NotedLaws.{behind_noted}
 use Rattle.np_load.proofs.noted.load_each_notes.Given as goal
 
@@ -9,5 +10,6 @@ use Rattle.np_load.proofs.noted.load_each_notes.Given as goal
 abbrev pub invariant-loop-n : goal.invariant-loop-n
 invariant-loop-n g l = record {
   says : (files : Files) → g.S.Shelf.files l.fn.shelf ≡ Some files → behind_noted (noted_in l.noted) (notes_say files l.net l.n (drop l.n l.devices)) ≡ notes_say files l.net 0 l.devices;
+  last : (files : Files) → g.S.Shelf.files l.fn.shelf ≡ Some files → IfSome l.last (IsReadOf files);
   kept : KeepsShelf g.S.Shelf.files g.S.Shelf.cap g.S.Shelf.faults g.S.Shelf.breaks l.fn.shelf l.shelf;
 }

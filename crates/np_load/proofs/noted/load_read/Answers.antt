@@ -1,0 +1,15 @@
+use Rattle.std.proofs.Common.{arith, length}
+use Rattle.std.specs.Prelude.{◌≤◌, Some, Ok}
+use Rattle.std.proofs.lemmas.Result.{err_from_is_err_and}
+use Rattle.np_acl_read.specs.Reading.{config_of}
+use Rattle.np_report.specs.declared.refusals.Refusal.TheVariants.{Config}
+use Rattle.np_load.specs.Limits.{file_limit}
+use Rattle.np_load.proofs.Loads.{bytes_halt}
+use Rattle.np_load.proofs.NotedLaws.{read_says}
+use Rattle.np_load.proofs.noted.load_read.Goals as goal
+
+pub returns-in_err-bytes-clause-halts : goal.returns-in_err-bytes-clause-halts
+returns-in_err-bytes-clause-halts g c = λ files told.
+    let p = err_from_is_err_and c.from_residual.result c.from_residual.ensures.1 in
+    rw (p.1, p.2)
+    (bytes_halt Config config_of files c.args.file.now _ (λ text is. c.in_err-bytes.ensures.refused text is files told))

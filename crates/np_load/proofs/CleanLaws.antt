@@ -4,8 +4,6 @@ use Rattle.std.specs.Prelude.{◌&&◌, suc, nat_lt, if◌then◌else◌}
 use Rattle.std.specs.FinMap.{get}
 use Rattle.std.specs.Option.{option_map, option_map_or}
 use Rattle.np_outside.specs.Files.{Files}
-use Rattle.np_lines.specs.declared.fault.LineFault.{LineFault}
-use Rattle.np_entry_read.specs.declared.fault.ConfigWhy.{ConfigWhy}
 use Rattle.np_acl_read.specs.declared.config.Config.{Config}
 use Rattle.np_acl_read.specs.Reading.{config_of}
 use Rattle.np_net.specs.Plan.{Plan}
@@ -18,6 +16,7 @@ use Rattle.np_notes.specs.ReadLines.{read_lines}
 use Rattle.np_notes.proofs.CleanLaws.{clean_is}
 use Rattle.np_notes.proofs.NamedLaws.{named_is}
 use Rattle.np_notes.proofs.ReadLaws.{lines_are_its}
+use Rattle.np_report.specs.declared.refusals.Refusal.{Refusal}
 use Rattle.np_report.specs.declared.refusals.Refusal.TheVariants as refusal
 use Rattle.np_report.specs.Refusals.{refusal_text}
 use Rattle.np_load.specs.CleanRun.{IsAt, IsCleanFile, IsCleanRun}
@@ -34,22 +33,20 @@ first_said None next y is = absurd (cc)
 first_said (Some (Err text)) next y is = absurd (cc)
 first_said (Some (Ok x)) next y is = (x, refl, is)
 
+-- a reading that is accepted is the one of the bytes, and they aren't too many
+bytes_read : {X Fault : Type 0} (why : Fault → Refusal) (file : List ℕ) (long : Bool) (judged : Result X Fault) (x : X) → Some (if long then Err (refusal_text file refusal.TooLong) else or_refused why file judged) ≡ Some (Ok x) → judged ≡ Ok x
+bytes_read why file true judged x is = absurd (cc)
+bytes_read why file false (Ok y) x is = let same : y ≡ x = cc in ap (λ z. Ok z) same
+bytes_read why file false (Err fault) x is = absurd (cc)
+
 -- a file with an accepted configuration is there
 file_there : (files : Files) (file : List ℕ) (config : Config) → config_says files file ≡ Some (Ok config) → (bytes : List ℕ) × (get files file ≡ Some bytes) × (config_of bytes ≡ Ok config)
 file_there files file config says = by (get files file) refl says where
-  read : (judged : Result Config (LineFault ConfigWhy)) → or_refused refusal.Config file judged ≡ Ok config → judged ≡ Ok config
-  read (Ok c) is = let same : c ≡ config = cc in ap (λ x. Ok x) same
-  read (Err fault) is = absurd (cc)
-
-  within : (long : Bool) (judged : Result Config (LineFault ConfigWhy)) → Some (if long then Err (refusal_text file refusal.TooLong) else or_refused refusal.Config file judged) ≡ Some (Ok config) → judged ≡ Ok config
-  within true judged is = absurd (cc)
-  within false judged is = read judged (cc)
-
   by : (found : Option (List ℕ)) → get files file ≡ found
       → option_map (λ bytes. if nat_lt file_limit (length bytes) then Err (refusal_text file refusal.TooLong) else or_refused refusal.Config file (config_of bytes)) found ≡ Some (Ok config)
       → (bytes : List ℕ) × (get files file ≡ Some bytes) × (config_of bytes ≡ Ok config)
   by None there is = absurd (cc)
-  by (Some bytes) there is = (bytes, there, within (nat_lt file_limit (length bytes)) (config_of bytes) is)
+  by (Some bytes) there is = (bytes, there, bytes_read refusal.Config file (nat_lt file_limit (length bytes)) (config_of bytes) config is)
 
 -- ---- one device among the others
 
@@ -116,39 +113,48 @@ clean_file files inputs n file config its says clean = record {
 
 -- ---- the whole
 
+-- what is said where nothing is refused
+abbrev accepted : {X : Type 0} → X → Option (Result X (List ℕ))
+accepted x = Some (Ok x)
+
+-- a network and configurations
+abbrev both : Plan → List Config → Inputs
+both net configs = record { net = net; configs = configs }
+
+-- the notes on the configurations of all devices
+abbrev all_of : Files → Inputs → Noted
+all_of files inputs = devices_noted files inputs.net 0 inputs.net.devices
+
+same_accepted : {X : Type 0} (x y : X) → accepted x ≡ accepted y → x ≡ y
+same_accepted x y is = cc
+
+-- the configurations are those that the devices' files say
+configs_said : (files : Files) (file : List ℕ) (inputs : Inputs) → inputs_of files file ≡ accepted inputs → configs_say files inputs.net.devices ≡ accepted inputs.configs
+configs_said files file inputs is =
+    let net = first_said (net_says files file) (λ net. and_then (configs_say files net.devices) (λ configs. accepted (both net configs))) inputs is in
+    let configs = first_said (configs_say files net.0.devices) (λ configs. accepted (both net.0 configs)) inputs net.2 in
+    subst (λ (i : Inputs). configs_say files i.net.devices ≡ accepted i.configs) (same_accepted (both net.0 configs.0) inputs configs.2) configs.1
+
+-- where no device has a note, each one's file is clean
+each_clean : (files : Files) (inputs : Inputs) → configs_say files inputs.net.devices ≡ accepted inputs.configs → (all_of files inputs).clean ≡ true
+    → (n : ℕ) (device : Device) (name : List ℕ) → IsAt inputs.net.devices n device → device.config ≡ Some name → IsCleanFile files inputs n name
+each_clean files inputs said clean n device name at named = subst (λ k. IsCleanFile files inputs k name) at.before own where
+  here : (config : Config) × (device_says files device ≡ accepted config) × IsAt inputs.configs (length at.front) config
+  here = config_at files at.front at.back device inputs.configs (subst (λ devices. configs_say files devices ≡ accepted inputs.configs) at.split said)
+
+  noted_here : (device_noted files inputs.net (length at.front) device).clean ≡ true
+  noted_here =
+      let same : 0 + length at.front ≡ length at.front = omega arith in
+      subst (λ k. (device_noted files inputs.net k device).clean ≡ true) same
+      (clean_at files inputs.net 0 at.front at.back device (subst (λ devices. (devices_noted files inputs.net 0 devices).clean ≡ true) at.split clean))
+
+  own : IsCleanFile files inputs (length at.front) name
+  own = clean_file files inputs (length at.front) name here.0 here.2
+      (sym (ap (λ o. option_map_or (config_says files) o (accepted empty)) named) ∙ here.1)
+      (sym (ap (λ o. (option_map_or (file_noted files inputs.net (length at.front)) o nothing).clean) named) ∙ noted_here)
+
 pub clean_run : (files : Files) (file : List ℕ) (noted : Noted) → noted_of files file ≡ Some (Ok noted) → noted.clean ≡ true → IsCleanRun files file
-clean_run files file noted is clean = record { inputs = found.0; declared = found.1; each = each } where
-  found : (inputs : Inputs) × (inputs_of files file ≡ Some (Ok inputs)) × (Some (Ok (devices_noted files inputs.net 0 inputs.net.devices)) ≡ Some (Ok noted))
-  found = first_said (inputs_of files file) (λ inputs. Some (Ok (devices_noted files inputs.net 0 inputs.net.devices))) noted is
-
-  inputs : Inputs
-  inputs = found.0
-
-  all_clean : (devices_noted files inputs.net 0 inputs.net.devices).clean ≡ true
-  all_clean = let same : devices_noted files inputs.net 0 inputs.net.devices ≡ noted = cc in ap (λ noted. noted.clean) same ∙ clean
-
-  -- the network and its configurations
-  net_said : (net : Plan) × (net_says files file ≡ Some (Ok net)) × (and_then (configs_say files net.devices) (λ configs. Some (Ok (record { net = net; configs = configs }))) ≡ Some (Ok inputs))
-  net_said = first_said (net_says files file) (λ net. and_then (configs_say files net.devices) (λ configs. Some (Ok (record { net = net; configs = configs })))) inputs found.1
-
-  configs_said : (configs : List Config) × (configs_say files net_said.0.devices ≡ Some (Ok configs)) × (Some (Ok (record { net = net_said.0; configs = configs })) ≡ Some (Ok inputs))
-  configs_said = first_said (configs_say files net_said.0.devices) (λ configs. Some (Ok (record { net = net_said.0; configs = configs }))) inputs net_said.2
-
-  same : record { net = net_said.0; configs = configs_said.0 } ≡ inputs
-  same = cc
-
-  all_said : configs_say files inputs.net.devices ≡ Some (Ok inputs.configs)
-  all_said = subst (λ (i : Inputs). configs_say files i.net.devices ≡ Some (Ok i.configs)) same configs_said.1
-
-  each : (n : ℕ) (device : Device) (name : List ℕ) → IsAt inputs.net.devices n device → device.config ≡ Some name → IsCleanFile files inputs n name
-  each n device name at named = subst (λ k. IsCleanFile files inputs k name) at.before own where
-    here : (config : Config) × (device_says files device ≡ Some (Ok config)) × IsAt inputs.configs (length at.front) config
-    here = config_at files at.front at.back device inputs.configs (subst (λ devices. configs_say files devices ≡ Some (Ok inputs.configs)) at.split all_said)
-
-    noted_here : (device_noted files inputs.net (length at.front) device).clean ≡ true
-    noted_here = clean_at files inputs.net 0 at.front at.back device (subst (λ devices. (devices_noted files inputs.net 0 devices).clean ≡ true) at.split all_clean)
-
-    own : IsCleanFile files inputs (length at.front) name
-    own = clean_file files inputs (length at.front) name here.0 here.2
-        (sym (ap (λ o. option_map_or (config_says files) o (Some (Ok empty))) named) ∙ here.1)
-        (sym (ap (λ o. (option_map_or (file_noted files inputs.net (length at.front)) o nothing).clean) named) ∙ noted_here)
+clean_run files file noted is clean =
+    let found = first_said (inputs_of files file) (λ inputs. accepted (all_of files inputs)) noted is in
+    let same : all_of files found.0 ≡ noted = same_accepted (all_of files found.0) noted found.2 in
+    record { inputs = found.0; declared = found.1; each = each_clean files found.0 (configs_said files file found.0 found.1) (ap (λ n. n.clean) same ∙ clean) }

@@ -1,14 +1,12 @@
 -- The notes of one device after another.
 use Rattle.std.proofs.Common.{◌≡◌, ℕ, ◌+◌, false, List, [], ◌∷◌, ◌++◌, arith, map, length, Option, Some, None, Result, Ok, Err, refl, sym, ap, ◌∙◌}
-use Rattle.std.specs.Prelude.{◌≤◌, ◌&&◌, nat_lt, IsOk, IsSome}
+use Rattle.std.specs.Prelude.{◌≤◌, ◌&&◌, nat_lt, IfOk, IsOk, IsSome}
 use Rattle.std.specs.FinMap.{get}
 use Rattle.std.specs.Option.{option_map_or}
 use Rattle.std.proofs.lemmas.Bool.Decides.{nat_tests}
 use Rattle.std.proofs.lemmas.Grind.{flat_map-append}
 use Rattle.std.proofs.lemmas.List.{map-append}
 use Rattle.np_outside.specs.Files.{Files}
-use Rattle.np_lines.specs.declared.fault.LineFault.{LineFault}
-use Rattle.np_entry_read.specs.declared.fault.ConfigWhy.{ConfigWhy}
 use Rattle.np_acl_read.specs.declared.config.Config.{Config}
 use Rattle.np_acl_read.specs.Reading.{config_of}
 use Rattle.np_net.specs.Plan.{Plan}
@@ -122,17 +120,33 @@ some_in_net files file net says some = rw says at (rw (noted_by_files files file
 not_longer : (limit count : ℕ) → count ≤ limit → nat_lt limit count ≡ false
 not_longer limit count within = grind (arith, nat_tests)
 
+-- a result that is no error is a value
+value_of : {X E : Type 0} (result : Result X E) → IsOk result → (x : X) × (result ≡ Ok x)
+value_of (Ok x) ok = (x, refl)
+value_of (Err e) ok = absurd (cc)
+
 pub read_says : (files : Files) (file bytes : List ℕ) (read : ReadFile) → get files file ≡ Some bytes → length bytes ≤ file_limit → IsOk (config_of bytes) → read.file ≡ file → HasPassed read.passed (read_lines bytes) → IsReadOf files read
-read_says files file bytes read there within accepted same passed = by (config_of bytes) refl accepted where
-  by : (judged : Result Config (LineFault ConfigWhy)) → config_of bytes ≡ judged → IsOk judged → IsReadOf files read
-  by (Ok config) is ok = record {
-    bytes = bytes;
-    config = config;
-    there = ap (λ f. get files f) same ∙ there;
-    says = ap (λ f. config_says files f) same ∙ rw (there, not_longer file_limit (length bytes) within, is) refl;
-    passed = passed;
-  }
-  by (Err fault) is ok = absurd ok
+read_says files file bytes read there within accepted same passed = record {
+  bytes = bytes;
+  config = config;
+  there = ap (λ f. get files f) same ∙ there;
+  says = ap (λ f. config_says files f) same ∙ says;
+  passed = passed;
+}
+  where
+    config : Config
+    config = (value_of (config_of bytes) accepted).0
+
+    is : config_of bytes ≡ Ok config
+    is = (value_of (config_of bytes) accepted).1
+
+    says : config_says files file ≡ Some (Ok config)
+    says = rw (there, not_longer file_limit (length bytes) within, is) refl
+
+-- what is read whatever was read last
+pub read_anyway : (told had : Files → Type 0) (file : List ℕ) (result : Result ReadFile Halt) → IfOk result (λ read. (read.file ≡ file) × ((files : Files) → told files → IsReadOf files read)) → IfOk result (λ read. (read.file ≡ file) × ((files : Files) → told files → had files → IsReadOf files read))
+read_anyway told had file (Ok read) is = (is.0, λ files tells was. is.1 files tells)
+read_anyway told had file (Err halt) is = tt
 
 -- the notes on a file that was read
 pub noted_says : (files : Files) (net : Plan) (n : ℕ) (file : List ℕ) (read : ReadFile) (noted : Noted) → IsReadOf files read → read.file ≡ file →

@@ -1,5 +1,5 @@
 -- Configurations that are copied where a device before has the same file.
-use Rattle.std.proofs.Common.{◌≡◌, ℕ, ◌+◌, Bool, true, false, cond, List, [], ◌∷◌, ◌++◌, map, Option, Some, None, Ok, slice_get, get_or, ◌<◌, length, refl, sym, ◌∙◌, ap}
+use Rattle.std.proofs.Common.{◌≡◌, ℕ, ◌+◌, Bool, true, false, cond, List, [], ◌∷◌, ◌++◌, Option, Some, None, Ok, slice_get, get_or, ◌<◌, length, refl, sym, ◌∙◌, ap}
 use Rattle.std.specs.Prelude.{◌||◌, is_some, option_map}
 use Rattle.std.specs.List.{list_any, position, position_from}
 use Rattle.std.specs.Option.{option_map_or}
@@ -23,15 +23,17 @@ named_says files file device = by device.config where
   by None named = cc
   by (Some own) named = ap (config_says files) (sym ((bytes_eq-Decides file own).0 named))
 
--- there is a place where some element passes
-pub position_found : {X : Type 0} (p : X → Bool) (xs : List X) → is_some (position p xs) ≡ list_any p xs
-position_found p xs = ap is_some (position_from-zero p xs) ∙ from 0 xs where
-  from : (i : ℕ) (xs : List X) → is_some (position_from p i xs) ≡ list_any p xs
-  from i [] = refl
-  from i (x ∷ xs) = by (p x) (from (i + 1) xs) where
+module _ {X : Type 0} (p : X → Bool) where
+  some_from : (i : ℕ) (xs : List X) → is_some (position_from p i xs) ≡ list_any p xs
+  some_from i [] = refl
+  some_from i (x ∷ xs) = by (p x) (some_from (i + 1) xs) where
     by : (b : Bool) → is_some (position_from p (i + 1) xs) ≡ list_any p xs → is_some (cond b (Some i) (position_from p (i + 1) xs)) ≡ (b || list_any p xs)
     by true rest = refl
     by false rest = rest
+
+  -- there is a place where an element passes exactly if some element does
+  pub position_found : (xs : List X) → is_some (position p xs) ≡ list_any p xs
+  position_found xs = ap is_some (position_from-zero p xs) ∙ some_from 0 xs
 
 -- the configuration of a device before, whose configuration is in the file, is what the file says
 pub loaded_before : (files : Files) (devices : List Device) (configs : List Config) (file : List ℕ) (k : ℕ) (config : Config) → position (names_file file) devices ≡ Some k → k < length configs → config ≡ get_or configs k config → AreLoaded files devices configs → config_says files file ≡ Some (Ok config)

@@ -53,7 +53,6 @@ fn first_with(devices: &[Device], file: &Name) -> Option<usize>
 
 /// A copy of the configuration of the first of these devices whose configuration is in this file.
 /// `None` where there is none.
-#[tactic(auto, using(crate::proofs::OnceLaws::loaded_before, crate::proofs::OnceLaws::position_found))]
 fn copy_of(
     alloc: Global,
     devices: &[Device],

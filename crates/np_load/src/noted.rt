@@ -194,19 +194,19 @@ fn load_each_notes<S: Shelf>(
     shelf: &mut S,
     net: &Network,
     devices: &[Device],
+    last: &mut Option<ReadFile>,
 ) -> Result<Noted, Halt>
     requires { length devices.now ≤ declaration_limit }
-    ensures says { (files : Files) → S.files shelf.old ≡ Some files → LoadsAs noted_in result (notes_say files net.now 0 devices.now) }
+    ensures says { (files : Files) → S.files shelf.old ≡ Some files → IfSome last.old (IsReadOf files) → LoadsAs noted_in result (notes_say files net.now 0 devices.now) }
 
     ensures failed { IsErrOf result halts.ReadFault → Rose (S.faults shelf.old) (S.faults shelf.new) }
-    ensures broken { IsErrOf result halts.ReadFault → (files : Files) → S.files shelf.old ≡ Some files →
+    ensures broken { IsErrOf result halts.ReadFault → (files : Files) → S.files shelf.old ≡ Some files → IfSome last.old (IsReadOf files) →
         IsSome (notes_say files net.now 0 devices.now) → Rose (S.breaks shelf.old) (S.breaks shelf.new) }
     ensures kept { KeepsShelf S.files S.cap S.faults S.breaks shelf.old shelf.new }
 {
     let mut noted = nothing(alloc);
-    let mut last = None;
     for n in 0..devices.len() {
-        let more = load_device_notes(alloc, shelf, net, n as DevId, &devices[n], &mut last)?;
+        let more = load_device_notes(alloc, shelf, net, n as DevId, &devices[n], last)?;
         noted.add(more)?;
     }
     Ok(noted)
@@ -221,7 +221,8 @@ fn load_all_notes<S: Shelf>(alloc: Global, shelf: &mut S, net: &Network) -> Resu
         IsSome (notes_say files net.now 0 net.now.devices) → Rose (S.breaks shelf.old) (S.breaks shelf.new) }
     ensures kept { KeepsShelf S.files S.cap S.faults S.breaks shelf.old shelf.new }
 {
-    load_each_notes(alloc, shelf, net, net.devices.as_slice())
+    let mut last = None;
+    load_each_notes(alloc, shelf, net, net.devices.as_slice(), &mut last)
 }
 
 /// Reads the network's file, and then the configuration of each device in the order of the devices,

@@ -1,18 +1,19 @@
-use Rattle.std.proofs.Common.{rules, ◌≡◌, ◌<◌, suc, ◌+◌, [], ◌∷◌, ◌++◌, length, drop, take, add-one, drop-cons, sym, ◌∙◌, ap, arith}
+use Rattle.std.proofs.Common.{rules, ℕ, List, ◌≡◌, ◌<◌, suc, ◌+◌, [], ◌∷◌, ◌++◌, length, drop, take, add-one, drop-cons, sym, ◌∙◌, ap, arith}
 use Rattle.std.proofs.lemmas.List.{take_more}
+use Rattle.np_acl_read.specs.declared.config.Config.{Config}
+use Rattle.np_net.specs.declared.filtering.Device.{Device}
 use Rattle.np_load.proofs.Loads.{one_more, behind}
 use Rattle.np_load.proofs.OnceLaws.{loaded_more}
 use Rattle.np_load.specs.Inputs.{configs_say}
-use Rattle.np_load.specs.Loaded.{AreLoaded}
 use Rattle.np_load.proofs.inputs.load_configs.Goals as goal
 
 pub loop-device-preserved : goal.loop-device-preserved
 loop-device-preserved g c =
-    let xs = c.args.devices.now in
-    let i = c.loop-device.device-index in
-    let device = c.device-item.result in
-    let configs = c.loop-device.configs.items in
-    let config = c.in_ok-config.config in
+    let xs : List Device = c.args.devices.now in
+    let i : ℕ = c.loop-device.device-index in
+    let device : Device = c.device-item.result in
+    let configs : List Config = c.loop-device.configs.items in
+    let config : Config = c.in_ok-config.config in
     let within : i < length xs = omega arith in
     let left : drop i xs ≡ device ∷ drop (i + 1) xs =
     rw (add-one, drop-cons xs i device) (ap (λ x. x ∷ drop (suc i) xs) (sym c.device-item.is)) in

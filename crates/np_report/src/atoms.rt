@@ -10,11 +10,11 @@ ghost use Rattle.np_script.specs.Written.{header_words};
 ghost use Rattle.np_report.specs.Atoms.{atoms_text, atom_lines, goal_lines, list_lines, digits};
 
 use crate::words::{put_header, put_number_word};
-use np_net_text::put_word;
 use np_atoms::Atoms;
 use np_atomset::AtomSet;
 use np_cut::Applied;
 use np_net::{DevId, Goal, Network, device_name};
+use np_net_text::put_word;
 use np_space::Header;
 use np_text::{Name, put_bytes};
 use std::alloc::{AllocError, Global};

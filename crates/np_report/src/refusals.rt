@@ -7,9 +7,9 @@ ghost use Rattle.np_report.specs.Refusals as refusals;
 ghost use Rattle.np_report.specs.Refusals.{refusal_text};
 
 use crate::words::put_number_word;
-use np_net_text::put_word;
 use np_acl_read::{ConfigFault, ConfigWhy};
 use np_net_read::{NetFault, NetWhy};
+use np_net_text::put_word;
 use np_script::{ScriptFault, ScriptWhy};
 use np_text::put_bytes;
 use std::alloc::{AllocError, Global};

@@ -11,9 +11,9 @@ ghost use Rattle.np_report.specs.Summary.{hop_count, is_hop_line, is_violated, s
 use crate::atoms::put_count;
 use crate::verdicts::is_holding;
 use crate::words::put_number_word;
-use np_net_text::put_word;
 use np_goals::Verdict;
 use np_net::Network;
+use np_net_text::put_word;
 use np_text::put_bytes;
 use std::alloc::{AllocError, Global};
 use std::string::String;

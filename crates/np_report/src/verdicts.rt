@@ -10,9 +10,9 @@ ghost use Rattle.np_report.specs.Verdicts as report;
 ghost use Rattle.np_report.specs.Verdicts.{verdicts_text, HasInterfaces};
 
 use crate::words::{put_header, put_hops, put_number_word};
-use np_net_text::put_word;
 use np_goals::Verdict;
 use np_net::{IfId, Network};
+use np_net_text::put_word;
 use np_space::Header;
 use np_text::put_bytes;
 use std::alloc::{AllocError, Global};

@@ -8,7 +8,7 @@ use Rattle.np_report.proofs.words.put_dscp_word.Goals as goal
 
 pub returns-in_err-put_word-clause-err : goal.returns-in_err-put_word-clause-err
 returns-in_err-put_word-clause-err c =
-    let front : AppendsFront c.args.text.now.items c.put_word.new.text.items (32 ∷ (codes "dscp=" ++ decimal c.args.dscp)) = AppendsFront-more _ c.in_err-put_word.ensures.err in
+    let front : AppendsFront c.args.text.now.items c.put_word.new.out.items (32 ∷ (codes "dscp=" ++ decimal c.args.dscp)) = AppendsFront-more _ c.in_err-put_word.ensures.err in
     OnErr-from _ front
 
 pub returns-clause-err : goal.returns-clause-err

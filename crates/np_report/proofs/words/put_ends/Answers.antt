@@ -21,6 +21,6 @@ returns-in_err-put_address_word-2-clause-err c =
 
 pub returns-clause-err : goal.returns-clause-err
 returns-clause-err c =
-    on_err_weaker c.put_number_word.result (λ last.
+    on_err_weaker c.put_number_word.result (λ last. rw (← c.from.ensures) (
     AppendsFront-after _ _ (32 ∷ dotted c.args.src) c.in_ok-put_address_word.ensures.ok
-    (AppendsFront-after _ _ (32 ∷ dotted c.args.dst) c.in_ok-put_address_word-2.ensures.ok (AppendsFront-more [] last))) c.put_number_word.ensures.err
+    (AppendsFront-after _ _ (32 ∷ dotted c.args.dst) c.in_ok-put_address_word-2.ensures.ok (AppendsFront-more [] last)))) c.put_number_word.ensures.err

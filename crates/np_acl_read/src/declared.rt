@@ -1,6 +1,6 @@
 //! What the lines of a configuration declare.
 
-ghost use Rattle.std.specs.Prelude.{◌≡◌, ◌<◌, [], length, option_map, OnOk};
+ghost use Rattle.std.specs.Prelude.{◌≡◌, ◌<◌, [], length, option_map, IfOk, OnOk};
 ghost use Rattle.std.specs.Map.{lookup};
 ghost use Rattle.std.specs.Str.{bytes_eq};
 ghost use Rattle.np_acl_read.specs.Adding.{Fits, added, entry_limit, with_numbered};
@@ -73,8 +73,17 @@ impl Declared {
         Some(entries.count())
     }
 
-    /// Adds what a statement declares. An error comes only where memory runs out.
-    pub fn add(&mut self, alloc: Global, statement: Statement) -> Result<(), AllocError>
+    /// What is declared with one more statement. An error comes only where memory runs out.
+    pub fn with(mut self, alloc: Global, statement: Statement) -> Result<Declared, AllocError>
+        requires { Fits self statement }
+        ensures { IfOk result (λ declared. declared ≡ added self statement) }
+    {
+        self.add(alloc, statement)?;
+        Ok(self)
+    }
+
+    /// Adds what a statement declares.
+    pub(crate) fn add(&mut self, alloc: Global, statement: Statement) -> Result<(), AllocError>
         requires { Fits self.old statement }
         ensures { OnOk result (self.new ≡ added self.old statement) }
     {

@@ -14,7 +14,7 @@ use np_pred::Pred;
 use np_region::Regions;
 use std::alloc::{AllocError, Global};
 
-// The place of the first of the lists that is the same as this one, if there is one.
+// The place of a list that is the same as this one: the first, where there is one.
 fn place_of(lists: &[List], list: &List) -> Option<usize>
     ensures { IfSome result (λ n. slice_get lists.now n ≡ Some list.now) }
 {
@@ -66,7 +66,8 @@ fn list_cuts<S: Regions>(
 }
 
 /// Other cuts, and after them the regions of the predicates, one for each, in their order. The region of many
-/// addresses that stand in several of them, as an area's, is made once. Fails only for want of memory.
+/// addresses that stand in several of them, as an area's, is made once; no clause says so. Fails only for want
+/// of memory.
 pub fn with_preds<S: Regions>(
     alloc: Global,
     store: &mut S,
@@ -100,7 +101,8 @@ fn goal_preds(alloc: Global, goals: &[Goal]) -> Result<Vec<&Pred>, AllocError>
 
 /// The cuts of a network's filtering (Guttman and Herzog 2005): the regions of the lists that are
 /// applied, in their order, and then those of the goals' predicates. Lists that are the same are made into a
-/// region once, and so are the addresses of an area, where there are many. Fails only for want of memory.
+/// region once, and so are the addresses of an area, where there are many; no clause says so. Fails only for
+/// want of memory.
 pub fn filter_cuts<S: Regions>(
     alloc: Global,
     store: &mut S,

@@ -10,8 +10,12 @@ use np_region::Regions;
 use np_space::{AddressField, Ternary};
 use std::alloc::{AllocError, Global};
 
-/// From how many patterns on a region is kept. To make one of fewer takes less than to look for it.
+/// From how many patterns on a region is kept. One of fewer is soon made.
 const MANY: usize = 16;
+
+/// How many regions are kept at most; all are forgotten when there would be more. So a look-up takes a bounded
+/// number of steps, where predicates name ever other addresses.
+const KEPT: usize = 1024;
 
 /// A region, and the addresses of which it was made.
 #[derive(Drop)]
@@ -60,6 +64,16 @@ fn made_before<'a, S: Regions>(
     None
 }
 
+// Forgets all regions where there are as many as may be kept.
+fn make_room<S: Regions>(_store: &S, made: &mut Vec<Made<S::R>>)
+    requires { AreMade S.fits S.has_header _store.now made.old.items }
+    ensures { AreMade S.fits S.has_header _store.now made.new.items }
+{
+    if made.len() >= KEPT {
+        made.clear();
+    }
+}
+
 // Makes the region of these addresses, and keeps it.
 fn make<S: Regions>(
     store: &mut S,
@@ -72,6 +86,7 @@ fn make<S: Regions>(
     ensures region { IfOk result (IsOfAddresses S.fits S.has_header field addresses.now store.new) }
     ensures made { OnOk result (AreMade S.fits S.has_header store.new made.new.items) }
 {
+    make_room(store, made);
     let region = store.of_addresses(field, addresses.as_slice())?;
     let copy = store.copy(&region)?;
     made.push(Made {
@@ -83,8 +98,8 @@ fn make<S: Regions>(
 }
 
 /// Exactly the valid headers whose address of this kind is in one of the patterns. Where there are many, the
-/// region is kept among those that were made before, and is a copy of the one that is there. Fails only for
-/// want of memory.
+/// region is kept among those that were made before, and is a copy of the one that is there; no clause says
+/// so. Fails only for want of memory.
 pub fn address_region<S: Regions>(
     store: &mut S,
     made: &mut Vec<Made<S::R>>,

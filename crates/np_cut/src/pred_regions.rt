@@ -148,7 +148,7 @@ pub(crate) fn pred_region_with<S: Regions>(
 }
 
 /// Exactly the valid headers for which the predicate holds. The region of many addresses that stand in it
-/// more than once is made once. Fails only for want of memory.
+/// more than once is made once; no clause says so. Fails only for want of memory.
 pub fn pred_region<S: Regions>(alloc: Global, store: &mut S, p: &Pred) -> Result<S::R, AllocError>
     ensures kept { KeepsRegions S.fits S.has_header store.old store.new }
     ensures fits { IfOk result (λ x. S.fits store.new x) }

@@ -16,7 +16,7 @@ pub record IsAt {X : Type 0} (all : List X) (place : ℕ) (one : X) : Type 0 whe
   pub split : all ≡ front ++ one ∷ back
   pub before : length front ≡ place
 
--- the configuration in a file is clean as that of the device of this number: the file is there, and its bytes declare the device's configuration. Each of its lines says what it says after the lines before it. Each line that looks like an entry is an entry of a list, and each line that applies a list does so in its interface's section. The lines name each of the device's interfaces, and those that apply lists name interfaces of the device, and lists that are there and have entries.
+-- the configuration in a file is clean as that of the device of this number: the file is there, and its bytes declare the device's configuration. Each of its lines says what it says after the lines before it. Each line that looks like an entry and stands in no list of another kind is an entry of a list, and each line that applies a list does so in its interface's section. The lines name each of the device's interfaces, and of those that apply lists the last at each interface and way names an interface of the device, and a list that is there and has entries.
 pub record IsCleanFile (files : Files) (inputs : Inputs) (n : ℕ) (file : List ℕ) : Type 0 where
   pub bytes : List ℕ
   pub config : Config

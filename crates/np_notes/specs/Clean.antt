@@ -114,7 +114,7 @@ pub record StandsInSection (before : List ReadLine) (interface : List ℕ) (line
   pub near : AllByRecursion MayStandAtInterface between
   pub stands : line.section ≡ sections.Interface interface
 
--- What it means that an accepted configuration with these lines has no note of lines: each line that looks like an entry and stands in no list of another kind is an entry of a list; a line in a list's section that is indented and looks like an entry is an entry of that list; and each line that applies a list stands in its interface's section.
+-- What it means that an accepted configuration with these lines has no note of lines: each line that looks like an entry and stands in no list of another kind is an entry of a list; after the line that opens a list's section, with only lines that may stand in a list between the two, an indented line that looks like an entry is an entry of that list; and each line that applies a list stands in its interface's section.
 pub record IsClean (config : Config) (lines : List ReadLine) : Type 0 where
   pub entries : (before after : List ReadLine) (line : ReadLine) → lines ≡ before ++ line ∷ after →
       LooksLikeEntry line → (StandsInForeignList before line → ⊥) → (list : List ℕ) × IsEntryOf config list line

@@ -12,7 +12,7 @@ use std::marker::Model;
 
 /// Names without repeats, in the order in which they were added. Contracts see the list of them.
 ///
-/// A look-up takes no memory: names are asked for once for each line of a configuration.
+/// A look-up takes no memory.
 #[derive(Drop)]
 pub struct NameSet {
     names: IndexSet<Name>,

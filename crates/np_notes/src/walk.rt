@@ -24,6 +24,7 @@ use np_acl_read::{ConfigError, ConfigFault, Declared, Section, Statement, line_s
 use np_lines::LineError;
 use np_text::{Name, lines};
 use std::alloc::{AllocError, Global};
+use std::mem::replace;
 
 /// What lines of a configuration have that notes speak of.
 #[derive(Drop)]
@@ -200,10 +201,11 @@ fn declare(
     requires { IfSome said (Fits declared.old) }
     ensures { OnOk result (declared.new ≡ added_if added declared.old said) }
 {
-    match said {
-        Some(statement) => declared.add(alloc, statement),
-        None => Ok(()),
+    if let Some(statement) = said {
+        let before = replace(declared, Declared::new(alloc));
+        *declared = before.with(alloc, statement)?;
     }
+    Ok(())
 }
 
 impl Walk {

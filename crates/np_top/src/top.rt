@@ -152,7 +152,9 @@ pub fn run_in<R: Threads + Sync, G: Atomizer, S: Shelf, K: Sink, T: Gate + Sync>
     // Where the report on IPsec goals is written, no state of any trajectory of any depth breaks a goal whose answer is yes.
     ensures safe { IsReport result → (files : Files) → S.files shelf.old ≡ Some files →
         (text : List ℕ) × IsSafeOutcome (texts_of words.now) files text × Took (K.taken sink.old) (K.taken sink.new) text }
-    // Where `notes` ends with status 0, nothing that may matter was passed over in any configuration of the network's devices.
+    // Where `notes` ends with status 0, in each configuration each line that looks like an entry, outside of lists of other
+    // kinds, is an entry of a list; each line that applies a list stands in its interface's section; and each applied list is
+    // there and has entries.
     ensures clean { result ≡ Status.Holds → (files : Files) → S.files shelf.old ≡ Some files → IsCleanOutcome (texts_of words.now) files }
 
     // What the shelf and the sink tell stays, and their counts do not fall.
@@ -246,7 +248,9 @@ pub fn run<R: Threads + Sync, S: Shelf, K: Sink>(
     // Where the report on IPsec goals is written, no state of any trajectory of any depth breaks a goal whose answer is yes.
     ensures safe { IsReport result → (files : Files) → S.files shelf.old ≡ Some files →
         (text : List ℕ) × IsSafeOutcome (texts_of words.now) files text × Took (K.taken sink.old) (K.taken sink.new) text }
-    // Where `notes` ends with status 0, nothing that may matter was passed over in any configuration of the network's devices.
+    // Where `notes` ends with status 0, in each configuration each line that looks like an entry, outside of lists of other
+    // kinds, is an entry of a list; each line that applies a list stands in its interface's section; and each applied list is
+    // there and has entries.
     ensures clean { result ≡ Status.Holds → (files : Files) → S.files shelf.old ≡ Some files → IsCleanOutcome (texts_of words.now) files }
 
     // What the shelf and the sink tell stays, and their counts do not fall.

@@ -3,11 +3,12 @@
 
 Usage: bench/hostile.py PROGRAM [WORD]    (wants `cc` for some names)
 
-Each run has to end by itself within 30 seconds of the processor, with the status and, where one is known, the text that
-its case says. It has the usual stack of 8 MiB, and 8 GiB of address space, so that it can't take the machine with it; it
-is killed after 300 seconds. A line says its seconds, the most memory that it took, its status and the bytes that it wrote.
-The last line counts the runs that weren't as they have to be. With WORD, only cases whose name has that word are run.
-All of them take most of an hour.
+Each run has to end by itself with the status and, where one is known, the text that its case says. It has the usual stack
+of 8 MiB, and 8 GiB of address space, so that it can't take the machine with it; it is killed after 300 seconds. A line says
+its seconds, the most memory that it took, its status and the bytes that it wrote. The inputs of the first kind have to end
+within 30 seconds of the processor; those of the second, which are known to take long, are measured, and a run that is
+killed is said to be. The last line counts the runs, and those that weren't as they have to be. With WORD, only cases whose
+name has that word are run. All of them take more than an hour.
 """
 
 import os
@@ -58,6 +59,9 @@ def filled():
         yield f'{name}: network', {'net': lambda line=line: full(line)}, ['check', 'net'], net
         yield f'{name}: configuration', {'net': NET, 'r.cfg': lambda line=line: full(line)}, ['check', 'net'], TCP
         yield f'{name}: in a list', {'net': NET, 'r.cfg': lambda line=line: full(line, b'ip access-list extended L\n')}, ['check', 'net'], section
+        yield f'{name}: notes', {'net': NET, 'r.cfg': lambda line=line: full(line)}, ['notes', 'net'], None
+        yield f'{name}: notes in a list', {'net': NET, 'r.cfg': lambda line=line: full(line, b'ip access-list extended L\n')}, ['notes', 'net'], None
+        yield f'{name}: script', {'net': NET.replace(' config r.cfg', ''), 's': lambda line=line: full(line)}, ['trace', 'net', 's'], None
     start = b'start area out 0.0.0.0 0.0.0.0 0 0 0 0\n'
     yield 'pops: script', {'net': NET, 's': lambda: full(b'pop\n', start)}, ['trace', 'net', 's'], None
     yield 'moves: script', {'net': NET.replace(' config r.cfg', ''), 's': lambda: full(b'enter r e0\ncross r e0\nleave\n', start)}, ['trace', 'net', 's'], None
@@ -101,6 +105,19 @@ def named_often(count, times):
     return area + '\narea b none\ndevice r\ninterface r e0 a\ninterface r e1 b\ngoal a b never ' + balanced(['src a'] * times, 'or') + '\n'
 
 
+def named_in_one(count, times):
+    """An area with so many prefixes, which each of 200 goals names so many times."""
+    area = 'area a ' + ','.join(address(k << 8) for k in range(count))
+    goal = 'goal a b never ' + balanced(['src a'] * times, 'or') + '\n'
+    return area + '\narea b none\ndevice r\ninterface r e0 a\ninterface r e1 b\n' + goal * 200
+
+
+def many_lists_of_addresses(count):
+    """A goal on so many lists of 16 addresses, no two of which are the same."""
+    lists = [f'src {",".join(address((k << 8) + n) for n in range(16))}' for k in range(count)]
+    return AREAS + 'device r\n' + BETWEEN + 'goal out lan never ' + balanced(lists, 'or') + '\n'
+
+
 def many_words(count):
     """A goal on so many addresses, each with a word of its own."""
     return AREAS + 'device r\n' + BETWEEN + 'goal out lan never ' + balanced([f'dst {address(k * 4099)}' for k in range(count)], 'or') + '\n'
@@ -113,28 +130,67 @@ def prefixes():
             for command in ('show', 'check', 'atoms'):
                 net = lambda count=count, goals=goals: many_prefixes(count, goals)
                 yield f'{count} prefixes, {goals} goals: {command}', {'net': net}, [command, 'net'], None
-    for times in (1000, 10000, 100000):
-        yield (f'10000 prefixes that one goal names {times} times: show', {'net': lambda times=times: named_often(10000, times)},
-               ['show', 'net'], None)
     for count, times in ((10000, 100), (3000, 300), (3000, 3000)):
         yield (f'{count} prefixes that one goal names {times} times: check', {'net': lambda count=count, times=times: named_often(count, times)},
                ['check', 'net'], None)
     for count in (100000, 400000):
         yield f'a predicate of {count} addresses: check', {'net': lambda count=count: many_words(count)}, ['check', 'net'], None
+    for count in (2000, 80000):
+        yield f'a predicate of {count} lists of 16 addresses: check', {'net': lambda count=count: many_lists_of_addresses(count)}, ['check', 'net'], None
+
+
+def rules(prefixes, asked):
+    """An area with so many prefixes, and so many rules of each of 16 interfaces that ask for them and a port each."""
+    net = 'area a ' + ','.join(address(k << 8) for k in range(prefixes)) + '\narea b none\narea c none\n'
+    net += ''.join(f'device g{k} trusted\n' for k in range(16)) + ''.join(f'interface g{k} e0 a\ninterface g{k} e1 b\n' for k in range(16))
+    net += ''.join(f'inrule g{k} e0 discard unmarked plain and src a dport {1 + n}\n' for k in range(16) for n in range(asked))
+    return net + 'auth a b any\n'
+
+
+def named():
+    """Areas that very many predicates name."""
+    for times in (1000, 10000, 100000):
+        yield (f'10000 prefixes that one goal names {times} times: show', {'net': lambda times=times: named_often(10000, times)},
+               ['show', 'net'], None)
+    yield '100000 prefixes that 200 goals name 400 times each: check', {'net': lambda: named_in_one(100000, 400)}, ['check', 'net'], None
+    yield '100000 prefixes that 200 goals name 4000 times each: check', {'net': lambda: named_in_one(100000, 4000)}, ['check', 'net'], None
+    for count in (100, 1000, 4000):
+        yield f'{count} prefixes that 4000 rules name: ipsec', {'net': lambda count=count: rules(count, 250)}, ['ipsec', 'net'], None
+
+
+def devices(files):
+    """256 devices that name these files in turn."""
+    net = 'area hub none\n' + ''.join(f'area a{k} none\n' for k in range(255))
+    net += ''.join(f'device d{k} config {files[k % len(files)]}\n' for k in range(256))
+    net += ''.join(f'interface d{k} e0 hub\ninterface d{k} e1 a{k % 255}\n' for k in range(256))
+    return net + ''.join(f'goal hub a{k} never tcp\n' for k in range(255))
 
 
 def shared():
     """256 devices that name one file of 16 MiB."""
-    net = 'area hub none\n' + ''.join(f'area a{k} none\n' for k in range(255))
-    net += ''.join(f'device d{k} config r.cfg\n' for k in range(256))
-    net += ''.join(f'interface d{k} e0 hub\ninterface d{k} e1 a{k % 255}\n' for k in range(256))
-    net += ''.join(f'goal hub a{k} never tcp\n' for k in range(255))
+    net = devices(['r.cfg'])
     entries = 'interface e0\n ip access-group 100 in\n'
     entries += ''.join(f'access-list 100 deny tcp host {address(k * 4099)} any\n' for k in range(20000))
     for name, line, first in [('of !', b'!\n', b''), ('of lines of one word', b'a\n', b''), ('of 20,000 entries and !', b'!\n', entries.encode())]:
         config = lambda line=line, first=first: full(line, first)
         for command in ('check', 'notes'):
             yield f'256 devices, one file {name}: {command}', {'net': net, 'r.cfg': config}, [command, 'net'], None
+
+
+def large():
+    """256 devices that name two files of 16 MiB in turn, or one of very many lists or groups; and a long interface's name."""
+    net = devices(['r.cfg', 's.cfg'])
+    for command in ('check', 'notes'):
+        yield f'256 devices, two files of ! in turn: {command}', {'net': net, 'r.cfg': lambda: full(b'!\n'), 's.cfg': lambda: full(b'!\n')}, [command, 'net'], None
+    lists = lambda: b''.join(b'ip access-list extended %06d\n' % k for k in range(540000))
+    groups = lambda: b''.join(b'interface %06d\nip access-group A in\n' % k for k in range(430000))
+    for what, config in (('540,000 lists', lists), ('430,000 groups', groups)):
+        for count in (1, 16, 256):
+            net = devices(['r.cfg']) if count == 256 else ''.join(f'device d{k} config r.cfg\n' for k in range(count))
+            yield f'{count} devices, one file of {what}: check', {'net': net, 'r.cfg': config}, ['check', 'net'], None
+    groups = lambda: full(b'ip access-group A in\n', b'interface ' + b'x' * 65536 + b'\n')
+    for command in ('check', 'notes'):
+        yield f'an interface name of 64 KiB and its groups: {command}', {'net': NET, 'r.cfg': groups}, [command, 'net'], None
 
 
 # Prints names of 9 bytes whose hashes, as the kit's maps make them, end in 16 bits 0. Finding them takes some seconds.
@@ -282,13 +338,13 @@ def main():
     program = os.path.abspath(sys.argv[1])
     word = sys.argv[2] if len(sys.argv) > 2 else ''
     runs = wrongs = 0
-    for cases in (filled, nested, prefixes, shared, names, wide, grown):
-        for name, files, words, expected in cases():
+    for bound, kinds in ((SECONDS, (filled, nested, prefixes, shared)), (None, (named, large, names, wide, grown))):
+        for name, files, words, expected in (case for cases in kinds for case in cases()):
             if word not in name:
                 continue
             seconds, clock, memory, status, text, count = run(program, files, words)
-            good = status in (0, 1, 6) if expected is None else (status, text) == (status_of(expected), expected.encode())
-            good = good and seconds <= SECONDS
+            good = status in (0, 1, 3, 6) if expected is None else (status, text) == (status_of(expected), expected.encode())
+            good = good and seconds <= bound if bound else good or clock >= KILLED_AFTER
             runs, wrongs = runs + 1, wrongs + (not good)
             print(f'{name}: {seconds:.2f} s ({clock:.2f} s by the clock), {memory:.0f} MB, status {status}, {count} bytes{"" if good else ", WRONG"}', flush=True)
     print(f'{runs} runs, {wrongs} wrong')

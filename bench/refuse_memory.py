@@ -29,14 +29,15 @@ SECONDS = 60
 OPEN = 'area out 0.0.0.0/0\narea lan 10.0.0.0/8\ndevice r\ninterface r e0 out\ninterface r e1 lan\ngoal out lan never tcp\n'
 SHUT = OPEN.replace('device r\n', 'device r config r.cfg\n')
 DENY = 'interface e0\n ip access-group 100 in\naccess-list 100 deny tcp any any\naccess-list 100 permit ip any any\n'
+PLAIN = GUARDED.replace('depth 4\n', '')
 RUNS = [
     ({'net': SHUT, 'r.cfg': DENY}, ['check', 'net']),
     ({'net': SHUT, 'r.cfg': DENY}, ['check', 'net', '2']),
     ({'net': SHUT, 'r.cfg': DENY}, ['atoms', 'net']),
     ({'net': SHUT, 'r.cfg': DENY}, ['notes', 'net']),
     ({'net': OPEN + 'free r e0 in\nfree r e1 out\n'}, ['synth', 'net']),
-    ({'net': GUARDED}, ['ipsec', 'net']),
-    ({'net': GUARDED, 'script': SCRIPT}, ['trace', 'net', 'script']),
+    ({'net': PLAIN}, ['ipsec', 'net']),
+    ({'net': PLAIN, 'script': SCRIPT}, ['trace', 'net', 'script']),
     ({'net': OPEN}, ['show', 'net']),
     ({'net': OPEN + 'color red\n'}, ['show', 'net']),
     ({}, ['gen', '1']),

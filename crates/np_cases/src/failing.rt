@@ -184,20 +184,26 @@ fn held_twice(alloc: Global) -> Result<MemShelf, AllocError> {
     shelf(alloc, &[("net", net.as_str()), ("r.cfg", config.as_str())])
 }
 
-/// The begin, the read and the last read of each of the two files, and no more: a seventh call would fail.
-#[test]
-fn a_file_of_two_devices_is_read_once(rt: HostRuntime) -> Result<(), Fail> {
-    let mut files = held_twice(rt.alloc())?;
+/// Expects this report on these files, of which each is read once: the begin, the read and the last read of each, and no
+/// more. A seventh call would fail.
+fn expect_read_once<R: Threads + Sync + Abort>(
+    rt: &R,
+    alloc: Global,
+    case: &str,
+    line: &[&str],
+    text: &[u8],
+    number: u8,
+) -> Result<(), Fail> {
+    let mut files = held_twice(alloc)?;
     files.fail_at(7)?;
-    expect_over(
-        &rt,
-        rt.alloc(),
-        "a file of two devices",
-        &["check", "net"],
-        &mut files,
-        HELD,
-        0,
-    )?;
+    expect_over(rt, alloc, case, line, &mut files, text, number)?;
     assert_eq!(rt; files.faults(), 0);
     Ok(())
+}
+
+#[test]
+fn a_file_of_two_devices_is_read_once(rt: HostRuntime) -> Result<(), Fail> {
+    let notes = b"note r.cfg no-interface e1\nnote r.cfg no-interface e1\nnotes\n";
+    expect_read_once(&rt, rt.alloc(), "its check", &["check", "net"], HELD, 0)?;
+    expect_read_once(&rt, rt.alloc(), "its notes", &["notes", "net"], notes, 1)
 }

@@ -25,21 +25,6 @@ pub struct Made<R> {
     pub region: R,
 }
 
-fn is_same_field(field: AddressField, other: AddressField) -> bool
-    ensures { IsTrue result ↔ (field ≡ other) }
-{
-    match field {
-        AddressField::Src => match other {
-            AddressField::Src => true,
-            AddressField::Dst => false,
-        },
-        AddressField::Dst => match other {
-            AddressField::Src => false,
-            AddressField::Dst => true,
-        },
-    }
-}
-
 fn are_same(patterns: &[Ternary], others: &[Ternary]) -> bool
     ensures { IsTrue result ↔ (patterns.now ≡ others.now) }
 {
@@ -57,7 +42,7 @@ fn made_before<'a, S: Regions>(
     ensures { IfSome result (λ x. IsOfAddresses S.fits S.has_header field patterns.now _store.now x.now) }
 {
     for one in made {
-        if is_same_field(one.field, field) && are_same(one.addresses.as_slice(), patterns) {
+        if one.field == field && are_same(one.addresses.as_slice(), patterns) {
             return Some(&one.region);
         }
     }

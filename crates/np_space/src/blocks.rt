@@ -30,7 +30,7 @@ pub struct Block {
 }
 
 /// A field of a header that is an address, so that a block has a pattern for it.
-#[derive(Clone, Copy)]
+#[derive(Clone, Copy, Debug, PartialEq, Eq)]
 pub enum AddressField {
     /// The source.
     Src,

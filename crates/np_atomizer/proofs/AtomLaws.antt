@@ -19,6 +19,7 @@ use Rattle.np_space.proofs.ClassLaws.{before_from_distinct}
 use Rattle.np_space.proofs.FlagLemmas.{flag_small, same_answers, and_both}
 use Rattle.np_space.proofs.HeaderLemmas.{order_total}
 use Rattle.np_region.specs.Keeping.{KeepsRegions, EachFits, tests_of}
+use Rattle.np_region.proofs.KeepingLemmas.{tests_kept}
 use Rattle.np_atoms.specs.Atoms.{cut_sets, AreAtoms}
 use Rattle.np_atomizer.specs.Splitting.{DivideValid, number_in, count_having, HasSome, IsClass, AreClasses, IsRead, AreInOrder}
 use Rattle.np_atomizer.specs.AtomList.{regions_of, leasts_of, is_before}
@@ -133,14 +134,6 @@ module _ {S R : Type 0} (fits : S → R → Type 0) (has : S → R → Header �
       append-nil [] = refl
       append-nil (x ∷ xs) = ap (λ l. x ∷ l) (append-nil xs)
   read_all s regions (r ∷ left) atoms none so_far = absurd (omega arith)
-
-  -- ---- the tests of the cuts
-
-  -- they are those that the cuts were in the store before
-  pub tests_same : (old s : S) (cuts : List R) → KeepsRegions fits has old s → EachFits fits old cuts → tests_of has s cuts ≡ tests_of has old cuts
-  tests_same old s [] k each = refl
-  tests_same old s (cut ∷ cuts) k each =
-      λ i. (λ h. k.same cut (All-head (fits old) cut cuts each) h i) ∷ tests_same old s cuts k (All-tail (fits old) cut cuts each) i
 
   -- ---- how many atoms have a header
 
@@ -312,7 +305,7 @@ module _ {S R : Type 0} (fits : S → R → Type 0) (has : S → R → Header �
   atoms_with_sets old s cuts atoms leasts sets fc k are read said =
       record {
         leasts = subst (AreLeasts (tests_of has old cuts)) (sym read) are.leasts;
-        sets = said ∙ ap (λ tests. cut_sets tests leasts) (tests_same old s cuts k fc);
+        sets = said ∙ ap (λ tests. cut_sets tests leasts) (tests_kept fits has old s cuts k fc);
       }
 
   -- ---- the region that has a header

@@ -1,20 +1,13 @@
 -- Cuts that are the tests of lists and predicates, one after another.
-use Rattle.std.proofs.Common.{◌≡◌, ℕ, zero, suc, ◌<◌, Bool, List, [], ◌∷◌, ◌++◌, length, map, get_or, Some, refl, sym, ◌∙◌, ap, append_assoc, arith}
+use Rattle.std.proofs.Common.{◌≡◌, ℕ, zero, suc, ◌<◌, Bool, List, [], ◌∷◌, ◌++◌, length, map, get_or, Some, sym, ◌∙◌, ap, append_assoc, arith}
 use Rattle.std.specs.Prelude.{slice_get}
-use Rattle.std.proofs.lemmas.List.Elements.{All-head, All-tail}
 use Rattle.std.proofs.lemmas.List.{map-append}
 use Rattle.np_space.specs.declared.headers.Header.{Header}
-use Rattle.np_region.specs.Keeping.{KeepsRegions, EachFits}
-use Rattle.np_region.proofs.KeepingLemmas.{keeps_chained, each_fits_kept, each_fits_more}
-use Rattle.np_region.specs.Keeping.{tests_of}
+use Rattle.np_region.specs.Keeping.{KeepsRegions, tests_of}
+use Rattle.np_region.proofs.KeepingLemmas.{keeps_chained, each_fits_kept, each_fits_more, tests_kept}
 use Rattle.np_cut.specs.FilterCuts.{AreCuts}
 
 module _ {S R : Type 0} (fits : S → R → Type 0) (has : S → R → Header → Bool) where
-  -- regions that fit are the same tests after a call that keeps them
-  pub tests_kept : (s t : S) (cuts : List R) → KeepsRegions fits has s t → EachFits fits s cuts → tests_of has t cuts ≡ tests_of has s cuts
-  tests_kept s t [] k each = refl
-  tests_kept s t (x ∷ xs) k each = λ i. (λ h. k.same x (All-head (fits s) x xs each) h i) ∷ tests_kept s t xs k (All-tail (fits s) x xs each) i
-
   -- one more region
   pub cuts_more : {X : Type 0} (test : X → Header → Bool) (before : List (Header → Bool)) (old s t : S) (xs ys : List X) (x : X) (cuts : List R) (cut : R) →
       AreCuts fits has (before ++ map test xs) old s cuts → KeepsRegions fits has s t → fits t cut → ((h : Header) → has t cut h ≡ test x h) → ys ≡ xs ++ x ∷ [] →
@@ -25,7 +18,7 @@ module _ {S R : Type 0} (fits : S → R → Type 0) (has : S → R → Header �
         fit = each_fits_more fits has t cuts cut (each_fits_kept fits has s t cuts k so_far.fit) f;
         exact =
             map-append (λ c. has t c) cuts (cut ∷ [])
-            ∙ (λ i. (tests_kept s t cuts k so_far.fit ∙ so_far.exact) i ++ (λ h. e h i) ∷ [])
+            ∙ (λ i. (tests_kept fits has s t cuts k so_far.fit ∙ so_far.exact) i ++ (λ h. e h i) ∷ [])
             ∙ append_assoc before (map test xs) (test x ∷ [])
             ∙ ap (λ l. before ++ l) (sym (map-append test xs (x ∷ [])))
             ∙ ap (λ l. before ++ map test l) (sym more);

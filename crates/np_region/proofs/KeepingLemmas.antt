@@ -1,9 +1,9 @@
 -- Calls that keep the regions of a store, one after another, and lists of regions that fit it.
-use Rattle.std.proofs.Common.{List, [], ◌∷◌, ◌++◌, get_or, refl, ◌∙◌}
+use Rattle.std.proofs.Common.{◌≡◌, List, [], ◌∷◌, ◌++◌, get_or, refl, ◌∙◌}
 use Rattle.std.specs.Prelude.{Bool}
-use Rattle.std.proofs.lemmas.List.Elements.{All-push}
+use Rattle.std.proofs.lemmas.List.Elements.{All-head, All-push, All-tail}
 use Rattle.np_space.specs.declared.headers.Header.{Header}
-use Rattle.np_region.specs.Keeping.{KeepsRegions, EachFits}
+use Rattle.np_region.specs.Keeping.{KeepsRegions, EachFits, tests_of}
 
 module _ {S R : Type 0} (fits : S → R → Type 0) (has : S → R → Header → Bool) where
   -- a store that is left as it is keeps its regions
@@ -22,3 +22,8 @@ module _ {S R : Type 0} (fits : S → R → Type 0) (has : S → R → Header �
   -- one more region that fits
   pub each_fits_more : (s : S) (xs : List R) (x : R) → EachFits fits s xs → fits s x → EachFits fits s (xs ++ x ∷ [])
   each_fits_more s xs x each f = All-push (fits s) xs x each f
+
+  -- regions that fit are the same tests after a call that keeps them
+  pub tests_kept : (s t : S) (cuts : List R) → KeepsRegions fits has s t → EachFits fits s cuts → tests_of has t cuts ≡ tests_of has s cuts
+  tests_kept s t [] k each = refl
+  tests_kept s t (x ∷ xs) k each = λ i. (λ h. k.same x (All-head (fits s) x xs each) h i) ∷ tests_kept s t xs k (All-tail (fits s) x xs each) i

@@ -1,5 +1,5 @@
 -- No two entries of a list in a text have the same number.
-use Rattle.std.proofs.Common.{◌≡◌, ℕ, ◌+◌, ◌<◌, ◌≤◌, Bool, true, false, nat_eq, nat_le, nat_lt, max, List, [], ◌∷◌, ◌++◌, map, unwrap_or, Option, Some, None, refl, sym, ap, subst, ◌∙◌, arith}
+use Rattle.std.proofs.Common.{◌≡◌, ℕ, ◌+◌, ◌<◌, ◌≤◌, Bool, true, false, nat_eq, nat_le, max, List, [], ◌∷◌, ◌++◌, map, unwrap_or, Option, Some, None, refl, sym, ap, ◌∙◌, arith}
 use Rattle.std.specs.Prelude.{◌||◌, ◌==◌, Ok, Err, fold, is_some, if◌then◌else◌, codes}
 use Rattle.std.specs.Fmt.{decimal}
 use Rattle.std.specs.List.{IsDistinct, filter_map, list_any}
@@ -14,17 +14,16 @@ use Rattle.std.proofs.lemmas.Slice.Eq.{bytes_eq-Decides}
 use Rattle.np_text.specs.Lines.{lines_of}
 use Rattle.np_text.specs.Numbers.{is_numeral, number_of}
 use Rattle.np_text.specs.Words.{words_of}
-use Rattle.np_lines.specs.Judging.{Judged, ◌>>=◌, ended, within}
+use Rattle.np_lines.specs.Judging.{Judged}
 use Rattle.np_lines.specs.Reading.{and_one, at_line, statements_from, text_says}
 use Rattle.np_lines.specs.Skipping.{begins_with, words_say}
-use Rattle.np_lines.specs.declared.fault.LineFault.{LineFault}
+use Rattle.np_lines.proofs.HoldingLaws.{Holds, holds, faulty, after, free, either_way, at_line_holds, ended_holds, within_holds}
 use Rattle.np_entry_read.specs.Entries.{entry_of}
 use Rattle.np_entry_read.specs.declared.fault.ConfigWhy.{ConfigWhy}
 use Rattle.np_entry_read.specs.declared.fault.ConfigWhy.TheVariants as why
 use Rattle.np_acl.specs.declared.entries.Entry.{Entry}
 use Rattle.np_acl.specs.declared.kinds.ListKind.{ListKind}
 use Rattle.np_acl.specs.declared.kinds.ListKind.TheVariants.{Extended, Standard}
-use Rattle.np_acl.specs.declared.kinds.Way.{Way}
 use Rattle.np_acl_read.specs.declared.declared.Declared.{Declared}
 use Rattle.np_acl_read.specs.declared.declared.Section.{Section}
 use Rattle.np_acl_read.specs.declared.declared.Section.TheVariants as sections
@@ -39,23 +38,6 @@ use Rattle.np_acl_read.specs.Words.{action_of, way_of}
 use Rattle.np_acl_read.proofs.CountingLaws.{entry_of_number}
 use Rattle.np_acl_read.proofs.DeclarationLaws.{found_at, no_entries, none_more, one_more}
 
--- ---- what holds of a value, if there is one
-
--- it holds of what judging gives
-abbrev Holds : {X : Type 0} → (X → Type 0) → Judged ConfigWhy X → Type 0
-Holds P (Ok x) = P x
-Holds P (Err e) = Unit {0}
-
--- it goes on through judging
-after : {X Y : Type 0} (P : X → Type 0) (Q : Y → Type 0) (j : Judged ConfigWhy X) (f : X → Judged ConfigWhy Y) → Holds P j → ((x : X) → P x → Holds Q (f x)) → Holds Q (j >>= f)
-after P Q (Ok x) f p next = next x p
-after P Q (Err e) f p next = tt
-
--- whatever the value is
-free : {X : Type 0} (j : Judged ConfigWhy X) → Holds (λ x. Unit {0}) j
-free (Ok x) = tt
-free (Err e) = tt
-
 -- ---- new numbers
 
 -- a number is none of these
@@ -64,12 +46,12 @@ IsNewOf numbers n = list_any (nat_eq n) numbers ≡ false
 
 -- a number of a word is new
 unused_new : (numbers : List ℕ) (o : Option ℕ) → Holds (IsNewOf numbers) (unused numbers o)
-unused_new numbers None = tt
+unused_new numbers None = faulty _ _
 unused_new numbers (Some n) = by (n == 0) (list_any (nat_eq n) numbers) refl where
   by : (zero used : Bool) → list_any (nat_eq n) numbers ≡ used → Holds (IsNewOf numbers) (if zero then Err why.BadNumber else (if used then Err why.DuplicateSequence else Ok n))
-  by true used is = tt
-  by false true is = tt
-  by false false is = is
+  by true used is = faulty _ _
+  by false true is = faulty _ _
+  by false false is = holds _ n is
 
 low_of_fold : (acc : ℕ) (xs : List ℕ) → acc ≤ fold max acc xs
 low_of_fold acc [] = omega arith
@@ -87,10 +69,8 @@ above_all n acc (x ∷ xs) above =
     apart n x less = grind (arith, nat_tests)
 
 next_new : (numbers : List ℕ) → Holds (IsNewOf numbers) (next_number numbers)
-next_new numbers = by (nat_le (fold max 0 numbers + 10) number_limit) where
-  by : (b : Bool) → Holds (IsNewOf numbers) (if b then Ok (fold max 0 numbers + 10) else Err why.BadNumber)
-  by true = above_all (fold max 0 numbers + 10) 0 numbers (omega arith)
-  by false = tt
+next_new numbers =
+    either_way (IsNewOf numbers) (nat_le (fold max 0 numbers + 10) number_limit) _ _ (holds _ _ (above_all (fold max 0 numbers + 10) 0 numbers (omega arith))) (faulty _ _)
 
 -- an entry's number is new in its list
 abbrev IsNewEntry : Declared → NumberedEntry → Type 0
@@ -118,45 +98,38 @@ IfNewIn declared (Some s) = IsNewIn declared s
 
 -- ---- what lines say has new numbers
 
-within_new : (declared : Declared) (many : ConfigWhy) (limit count : ℕ) (entry : NumberedEntry) → IsNewEntry declared entry → Holds (IsNewEntry declared) (within many limit count entry)
-within_new declared many limit count entry new = by (nat_lt count limit) where
-  by : (b : Bool) → Holds (IsNewEntry declared) (if b then Ok entry else Err many)
-  by true = new
-  by false = tt
-
 numbered_new : (declared : Declared) (list : List ℕ) (kind : ListKind) (word : List ℕ) (permit : Bool) (words : List (List ℕ)) → Holds (IsNewEntry declared) (numbered declared list kind word permit words)
 numbered_new declared list kind word permit words =
     after (IsNewOf (numbers_in declared.lists list)) (IsNewEntry declared) (sequence_number (numbers_in declared.lists list) word) _ (unused_new (numbers_in declared.lists list) (number_of word number_limit))
     (λ number new. after (λ e. Unit {0}) (IsNewEntry declared) (entry_of kind permit words) _ (free (entry_of kind permit words))
-    (λ entry t. within_new declared _ entry_limit declared.entries (record { list = list; number = number; entry = entry }) new))
+    (λ entry t. within_holds (IsNewEntry declared) _ entry_limit declared.entries (record { list = list; number = number; entry = entry }) new))
 
 unnumbered_new : (declared : Declared) (list : List ℕ) (kind : ListKind) (permit : Bool) (words : List (List ℕ)) → Holds (IsNewEntry declared) (unnumbered declared list kind permit words)
 unnumbered_new declared list kind permit words =
     after (λ e. Unit {0}) (IsNewEntry declared) (entry_of kind permit words) _ (free (entry_of kind permit words))
     (λ entry t. after (IsNewOf (numbers_in declared.lists list)) (IsNewEntry declared) (next_number (numbers_in declared.lists list)) _ (next_new (numbers_in declared.lists list))
-    (λ number new. within_new declared _ entry_limit declared.entries (record { list = list; number = number; entry = entry }) new))
+    (λ number new. within_holds (IsNewEntry declared) _ entry_limit declared.entries (record { list = list; number = number; entry = entry }) new))
 
 list_entry_new : (declared : Declared) (list : List ℕ) (kind : ListKind) (number : Option (List ℕ)) (permit : Bool) (words : List (List ℕ)) → Holds (IsNewEntry declared) (list_entry declared list kind number permit words)
 list_entry_new declared list kind None permit words = unnumbered_new declared list kind permit words
 list_entry_new declared list kind (Some word) permit words = numbered_new declared list kind word permit words
 
 acted_new : (declared : Declared) (list : List ℕ) (kind : ListKind) (number : Option (List ℕ)) (word : List ℕ) (action : Option Bool) (words : List (List ℕ)) → Holds (IfNewEntry declared) (acted declared list kind number word action words)
-acted_new declared list kind number word None words = tt
+acted_new declared list kind number word None words = faulty _ _
 acted_new declared list kind number word (Some permit) words =
-    after (IsNewEntry declared) (IfNewEntry declared) (list_entry declared list kind number permit words) _ (list_entry_new declared list kind number permit words) (λ entry new. new)
+    after (IsNewEntry declared) (IfNewEntry declared) (list_entry declared list kind number permit words) _ (list_entry_new declared list kind number permit words) (λ entry new. holds _ (Some entry) new)
 
 entry_or_remark_new : (declared : Declared) (list : List ℕ) (kind : ListKind) (number : Option (List ℕ)) (words : List (List ℕ)) → Holds (IfNewEntry declared) (entry_or_remark declared list kind number words)
 unfolding entry_or_remark
-entry_or_remark_new declared list kind number [] = tt
-entry_or_remark_new declared list kind number (word ∷ words) = by (bytes_eq word (codes "remark")) where
-  by : (b : Bool) → Holds (IfNewEntry declared) (if b then Ok None else acted declared list kind number word (action_of word) words)
-  by true = tt
-  by false = acted_new declared list kind number word (action_of word) words
+entry_or_remark_new declared list kind number [] = faulty _ _
+entry_or_remark_new declared list kind number (word ∷ words) =
+    either_way (IfNewEntry declared) (bytes_eq word (codes "remark")) _ _ (holds _ None tt) (acted_new declared list kind number word (action_of word) words)
 
 line_of_list_new : (declared : Declared) (list : Option (ℕ × ListKind)) (words : List (List ℕ)) → Holds (IsNewIn declared) (line_of_list declared list words)
-line_of_list_new declared None words = tt
+line_of_list_new declared None words = holds _ statement.Other tt
 line_of_list_new declared (Some list) words =
-    after (IfNewEntry declared) (IsNewIn declared) (entry_or_remark declared (decimal list.0) list.1 None words) _ (entry_or_remark_new declared (decimal list.0) list.1 None words) by
+    after (IfNewEntry declared) (IsNewIn declared) (entry_or_remark declared (decimal list.0) list.1 None words) _ (entry_or_remark_new declared (decimal list.0) list.1 None words)
+    (λ entry new. holds _ (list_statement (decimal list.0) entry) (by entry new))
   where
     by : (entry : Option NumberedEntry) → IfNewEntry declared entry → IsNewIn declared (list_statement (decimal list.0) entry)
     by None new = tt
@@ -164,58 +137,47 @@ line_of_list_new declared (Some list) words =
 
 list_line_new : (declared : Declared) (words : List (List ℕ)) → Holds (IsNewIn declared) (list_line declared words)
 unfolding list_line
-list_line_new declared [] = tt
+list_line_new declared [] = holds _ statement.Other tt
 list_line_new declared (word ∷ words) = line_of_list_new declared (list_number word) words
 
 interface_line_new : (declared : Declared) (words : List (List ℕ)) → Holds (IsNewIn declared) (interface_line words)
-interface_line_new declared [] = tt
-interface_line_new declared (name ∷ words) = tt
+interface_line_new declared [] = faulty _ _
+interface_line_new declared (name ∷ words) = holds _ (statement.Interface name) tt
 
 open_list_new : (declared : Declared) (kind : ListKind) (words : List (List ℕ)) → Holds (IsNewIn declared) (open_list kind words)
 unfolding open_list
-open_list_new declared kind [] = tt
-open_list_new declared kind (name ∷ []) = tt
-open_list_new declared kind (name ∷ more ∷ words) = tt
+open_list_new declared kind [] = faulty _ _
+open_list_new declared kind (name ∷ []) = holds _ (statement.Section name kind) tt
+open_list_new declared kind (name ∷ more ∷ words) = faulty _ _
 
 access_list_new : (declared : Declared) (words : List (List ℕ)) → Holds (IsNewIn declared) (access_list words)
 unfolding access_list
-access_list_new declared [] = tt
-access_list_new declared (word ∷ words) = by (bytes_eq word (codes "extended")) (bytes_eq word (codes "standard")) where
-  by : (extended standard : Bool) → Holds (IsNewIn declared) (if extended then open_list Extended words else (if standard then open_list Standard words else Ok statement.Other))
-  by true standard = open_list_new declared Extended words
-  by false true = open_list_new declared Standard words
-  by false false = tt
-
-ended_new : (declared : Declared) (more : ConfigWhy) (interface : List ℕ) (way : Way) (list : List ℕ) (words : List (List ℕ)) → Holds (IsNewIn declared) (ended more words (statement.Group interface way list))
-ended_new declared more interface way list [] = tt
-ended_new declared more interface way list (word ∷ words) = tt
+access_list_new declared [] = holds _ statement.Other tt
+access_list_new declared (word ∷ words) =
+    either_way (IsNewIn declared) (bytes_eq word (codes "extended")) _ _ (open_list_new declared Extended words)
+    (either_way (IsNewIn declared) (bytes_eq word (codes "standard")) _ _ (open_list_new declared Standard words) (holds _ statement.Other tt))
 
 group_at_new : (declared : Declared) (interface : List ℕ) (words : List (List ℕ)) → Holds (IsNewIn declared) (group_at interface words)
 unfolding group_at
-group_at_new declared interface [] = tt
-group_at_new declared interface (list ∷ []) = tt
+group_at_new declared interface [] = faulty _ _
+group_at_new declared interface (list ∷ []) = faulty _ _
 group_at_new declared interface (list ∷ word ∷ words) =
-    after (λ w. Unit {0}) (IsNewIn declared) (way_of word) _ (free (way_of word)) (λ way t. ended_new declared _ interface way list words)
+    after (λ w. Unit {0}) (IsNewIn declared) (way_of word) _ (free (way_of word)) (λ way t. ended_holds (IsNewIn declared) _ words (statement.Group interface way list) tt)
 
 group_line_new : (declared : Declared) (section : Section) (words : List (List ℕ)) → Holds (IsNewIn declared) (group_line section words)
-group_line_new declared sections.Closed words = tt
+group_line_new declared sections.Closed words = faulty _ _
 group_line_new declared (sections.Interface name) words = group_at_new declared name words
-group_line_new declared (sections.List name kind) words = tt
+group_line_new declared (sections.List name kind) words = faulty _ _
 
 ip_line_new : (declared : Declared) (words : List (List ℕ)) → Holds (IsNewIn declared) (ip_line declared words)
 unfolding ip_line
-ip_line_new declared [] = tt
-ip_line_new declared (word ∷ words) = by (bytes_eq word (codes "access-list")) (bytes_eq word (codes "access-group")) where
-  by : (list group : Bool) → Holds (IsNewIn declared) (if list then access_list words else (if group then group_line declared.section words else Ok statement.Other))
-  by true group = access_list_new declared words
-  by false true = group_line_new declared declared.section words
-  by false false = tt
+ip_line_new declared [] = holds _ statement.Other tt
+ip_line_new declared (word ∷ words) =
+    either_way (IsNewIn declared) (bytes_eq word (codes "access-list")) _ _ (access_list_new declared words)
+    (either_way (IsNewIn declared) (bytes_eq word (codes "access-group")) _ _ (group_line_new declared declared.section words) (holds _ statement.Other tt))
 
 no_line_new : (declared : Declared) (words : List (List ℕ)) → Holds (IsNewIn declared) (no_line declared words)
-no_line_new declared words = by (is_negated declared.section words) where
-  by : (b : Bool) → Holds (IsNewIn declared) (if b then Err why.Negated else Ok statement.Other)
-  by true = tt
-  by false = tt
+no_line_new declared words = either_way (IsNewIn declared) (is_negated declared.section words) _ _ (faulty _ _) (holds _ statement.Other tt)
 
 -- a keyword's line, where there is one
 abbrev IfHolds : Declared → Option (Judged ConfigWhy Statement) → Type 0
@@ -234,40 +196,33 @@ keyword_new declared word words = by (bytes_eq word (codes "interface")) (bytes_
 section_entry_new : (declared : Declared) (list : List ℕ) (kind : ListKind) (words : List (List ℕ)) → Holds (IfNewEntry declared) (section_entry declared list kind words)
 unfolding section_entry
 section_entry_new declared list kind [] = entry_or_remark_new declared list kind None []
-section_entry_new declared list kind (word ∷ words) = by (is_numeral word) where
-  by : (b : Bool) → Holds (IfNewEntry declared) (if b then entry_or_remark declared list kind (Some word) words else entry_or_remark declared list kind None (word ∷ words))
-  by true = entry_or_remark_new declared list kind (Some word) words
-  by false = entry_or_remark_new declared list kind None (word ∷ words)
+section_entry_new declared list kind (word ∷ words) =
+    either_way (IfNewEntry declared) (is_numeral word) _ _ (entry_or_remark_new declared list kind (Some word) words) (entry_or_remark_new declared list kind None (word ∷ words))
 
 section_line_new : (declared : Declared) (list : List ℕ) (kind : ListKind) (words : List (List ℕ)) → Holds (IfNewIn declared) (section_line declared list kind words)
 section_line_new declared list kind words =
-    after (IfNewEntry declared) (IfNewIn declared) (section_entry declared list kind words) _ (section_entry_new declared list kind words) by
+    after (IfNewEntry declared) (IfNewIn declared) (section_entry declared list kind words) _ (section_entry_new declared list kind words) (λ entry new. holds _ (section_statement entry) (by entry new))
   where
     by : (entry : Option NumberedEntry) → IfNewEntry declared entry → IfNewIn declared (section_statement entry)
     by None new = tt
     by (Some entry) new = new
 
 other_line_new : (declared : Declared) (section : Section) (word : List ℕ) (words : List (List ℕ)) → Holds (IfNewIn declared) (other_line declared section word words)
-other_line_new declared sections.Closed word words = tt
-other_line_new declared (sections.Interface name) word words = tt
-other_line_new declared (sections.List name kind) word words = by (begins_list_line word) where
-  by : (b : Bool) → Holds (IfNewIn declared) (if b then section_line declared name kind words else Ok (Some statement.Other))
-  by true = section_line_new declared name kind words
-  by false = tt
+other_line_new declared sections.Closed word words = holds _ (Some statement.Other) tt
+other_line_new declared (sections.Interface name) word words = holds _ (Some statement.Other) tt
+other_line_new declared (sections.List name kind) word words =
+    either_way (IfNewIn declared) (begins_list_line word) _ _ (section_line_new declared name kind words) (holds _ (Some statement.Other) tt)
 
 said_or_other_new : (declared : Declared) (o : Option (Judged ConfigWhy Statement)) (word : List ℕ) (words : List (List ℕ)) → IfHolds declared o → Holds (IfNewIn declared) (said_or_other declared o word words)
-said_or_other_new declared None word words holds = other_line_new declared declared.section word words
-said_or_other_new declared (Some judged) word words holds = after (IsNewIn declared) (IfNewIn declared) judged _ holds (λ s new. new)
+said_or_other_new declared None word words new = other_line_new declared declared.section word words
+said_or_other_new declared (Some judged) word words new = after (IsNewIn declared) (IfNewIn declared) judged _ new (λ s new. holds _ (Some s) new)
 
 line_with_new : (declared : Declared) (word : List ℕ) (words : List (List ℕ)) → Holds (IfNewIn declared) (line_with declared word words)
 line_with_new declared word words = said_or_other_new declared (keyword_says declared word words) word (word ∷ words) (keyword_new declared word words)
 
 words_new : (declared : Declared) (words : List (List ℕ)) → Holds (IfNewIn declared) (words_say 33 (line_with declared) words)
-words_new declared [] = tt
-words_new declared (word ∷ words) = by (begins_with 33 word) where
-  by : (b : Bool) → Holds (IfNewIn declared) (if b then Ok None else line_with declared word words)
-  by true = tt
-  by false = line_with_new declared word words
+words_new declared [] = holds _ None tt
+words_new declared (word ∷ words) = either_way (IfNewIn declared) (begins_with 33 word) _ _ (holds _ None tt) (line_with_new declared word words)
 
 -- the number of an entry that a line says is new in its list
 line_new : (declared : Declared) (line : List ℕ) → Holds (IfNewIn declared) (line_says declared line)
@@ -343,30 +298,22 @@ apart_step before statement.Other new apart = apart_kept before statement.Other 
 
 -- ---- texts
 
--- it holds of the statements that are read
-abbrev Read : (List Statement → Type 0) → Judged (LineFault ConfigWhy) (List Statement) → Type 0
-Read P (Ok statements) = P statements
-Read P (Err fault) = Unit {0}
+-- a line whose numbers are new keeps them distinct
+line_apart : (before : List Statement) (said : Option Statement) → IfNewIn (declared_by_config before) said → AreApart before → AreApart (and_one before said)
+line_apart before None new apart = apart
+line_apart before (Some s) new apart = apart_step before s new apart
 
-line_apart : (before : List Statement) (number : ℕ) (j : Judged ConfigWhy (Option Statement)) (lines : List (List ℕ)) → Holds (IfNewIn (declared_by_config before)) j → AreApart before
-    → ((more : List Statement) → AreApart more → Read AreApart (statements_from (λ earlier. line_says (declared_by_config earlier)) more (number + 1) lines))
-    → Read AreApart (at_line number j >>= λ said. statements_from (λ earlier. line_says (declared_by_config earlier)) (and_one before said) (number + 1) lines)
-line_apart before number (Ok None) lines new apart next = next before apart
-line_apart before number (Ok (Some s)) lines new apart next = next (before ++ s ∷ []) (apart_step before s new apart)
-line_apart before number (Err fault) lines new apart next = tt
-
-apart_from : (before : List Statement) (number : ℕ) (lines : List (List ℕ)) → AreApart before → Read AreApart (statements_from (λ earlier. line_says (declared_by_config earlier)) before number lines)
-apart_from before number [] apart = apart
+apart_from : (before : List Statement) (number : ℕ) (lines : List (List ℕ)) → AreApart before → Holds AreApart (statements_from (λ earlier. line_says (declared_by_config earlier)) before number lines)
+apart_from before number [] apart = holds _ before apart
 apart_from before number (line ∷ lines) apart =
-    line_apart before number (line_says (declared_by_config before) line) lines (line_new (declared_by_config before) line) apart (λ more h. apart_from more (number + 1) lines h)
+    after (IfNewIn (declared_by_config before)) AreApart (at_line number (line_says (declared_by_config before) line)) _
+    (at_line_holds _ number _ (line_new (declared_by_config before) line))
+    (λ said new. apart_from (and_one before said) (number + 1) lines (line_apart before said new apart))
 
 none_apart : AreApart []
 unfolding IsDistinct
 none_apart name = tt
 
-read_is : (P : List Statement → Type 0) (j : Judged (LineFault ConfigWhy) (List Statement)) (statements : List Statement) → j ≡ Ok statements → Read P j → P statements
-read_is P j statements is holds = let Q : Judged (LineFault ConfigWhy) (List Statement) → Type 0 = λ k. Read P k in subst Q is holds
-
 -- the statements of a text give a list no number twice
 pub numbers_apart : (text : List ℕ) (statements : List Statement) → text_says (λ before. line_says (declared_by_config before)) text ≡ Ok statements → (name : List ℕ) → IsDistinct nat_eq (keys_of (declared_in statements name))
-numbers_apart text statements says = read_is AreApart (text_says (λ before. line_says (declared_by_config before)) text) statements says (apart_from [] 1 (lines_of text) none_apart)
+numbers_apart text statements says = (apart_from [] 1 (lines_of text) none_apart).of statements says

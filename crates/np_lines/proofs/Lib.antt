@@ -1,3 +1,4 @@
+pub mod HoldingLaws
 pub mod LastLaws
 pub mod LineReading
 pub mod SkippedLines

@@ -1,6 +1,6 @@
 -- A rule names an interface on an earlier line, so the rules of an interface are those of all statements that name it.
-use Rattle.std.proofs.Common.{◌≡◌, ◌==◌, ℕ, ◌+◌, ◌<◌, ◌≤◌, zero, suc, Bool, true, false, List, [], ◌∷◌, ◌++◌, length, map, Option, Some, None, refl, ap, subst, ◌∙◌, arith}
-use Rattle.std.specs.Prelude.{Ok, Err, if◌then◌else◌, codes, nat_lt, position}
+use Rattle.std.proofs.Common.{◌≡◌, ◌==◌, ℕ, ◌+◌, ◌<◌, ◌≤◌, zero, suc, false, List, [], ◌∷◌, ◌++◌, length, map, Option, Some, None, refl, ap, subst, ◌∙◌, arith}
+use Rattle.std.specs.Prelude.{Ok, Err, codes, position}
 use Rattle.std.specs.List.{filter_map, list_all, range_with_len}
 use Rattle.std.specs.Option.{ok_or}
 use Rattle.std.specs.Str.{bytes_eq}
@@ -13,6 +13,7 @@ use Rattle.np_lines.specs.Judging.{Judged, ◌>>=◌, ended, within, word_in}
 use Rattle.np_lines.specs.Reading.{and_one, at_line, statements_from}
 use Rattle.np_lines.specs.Skipping.{begins_with, is_text_byte}
 use Rattle.np_lines.specs.declared.fault.LineFault.{LineFault}
+use Rattle.np_lines.proofs.HoldingLaws.{Holds, holds, faulty, after, onward, either_way, at_line_holds, ended_holds, within_holds}
 use Rattle.np_net.specs.Distinct.{same_place}
 use Rattle.np_net.specs.Limits.{declaration_limit, interface_limit, rule_limit}
 use Rattle.np_net.specs.Plan.{Plan, area_names, device_names, interface_names, sa_names}
@@ -28,40 +29,6 @@ use Rattle.np_net_read.specs.Judging.{area_next, area_says, auth_says, conf_says
 use Rattle.np_net_read.specs.Reading.{net_of}
 use Rattle.np_net_read.specs.Statements.{TablesAreFilters, statements_of, tables_of}
 use Rattle.np_net_read.specs.Tables.{rule_total}
-
--- ---- what holds of a value, if there is one
-
--- it holds of what judging gives
-record Holds {W X : Type 0} (P : X → Type 0) (j : Judged W X) : Type 0 where
-  of : (x : X) → j ≡ Ok x → P x
-
-holds : {W X : Type 0} (P : X → Type 0) (x : X) → P x → Holds {W = W} P (Ok x)
-holds {W} P x h = record { of = λ y is. let same : x ≡ y = cc in subst P same h }
-
-faulty : {W X : Type 0} (P : X → Type 0) (e : W) → Holds {X = X} P (Err e)
-faulty P e = record { of = λ y is. cc }
-
--- it goes on through judging
-after : {W X Y : Type 0} (P : X → Type 0) (Q : Y → Type 0) (j : Judged W X) (f : X → Judged W Y) → Holds P j → ((x : X) → P x → Holds Q (f x)) → Holds Q (j >>= f)
-after P Q (Ok x) f p next = next x (p.of x refl)
-after P Q (Err e) f p next = faulty Q e
-
--- whatever the first value is
-onward : {W X Y : Type 0} (Q : Y → Type 0) (j : Judged W X) (f : X → Judged W Y) → ((x : X) → Holds Q (f x)) → Holds Q (j >>= f)
-onward Q (Ok x) f next = next x
-onward Q (Err e) f next = faulty Q e
-
--- on both ways
-either_way : {W X : Type 0} (P : X → Type 0) (b : Bool) (x y : Judged W X) → Holds P x → Holds P y → Holds P (if b then x else y)
-either_way P true x y h k = h
-either_way P false x y h k = k
-
-ended_holds : {W X : Type 0} (P : X → Type 0) (more : W) (words : List (List ℕ)) (x : X) → P x → Holds P (ended more words x)
-ended_holds P more [] x h = holds P x h
-ended_holds P more (word ∷ words) x h = faulty P more
-
-within_holds : {W X : Type 0} (P : X → Type 0) (many : W) (limit count : ℕ) (x : X) → P x → Holds P (within many limit count x)
-within_holds P many limit count x h = either_way P (nat_lt count limit) (Ok x) (Err many) (holds P x h) (faulty P many)
 
 -- ---- a rule's interface
 
@@ -311,10 +278,6 @@ line_in_order before line order = by (line_says (declared_by_network before) lin
   by (Ok None) fits = holds _ _ order
   by (Ok (Some s)) fits = holds _ _ (order_more 0 (interface_count before) before s (omega arith) order (fits.of (Some s) refl))
   by (Err fault) fits = faulty _ _
-
-at_line_holds : {W X : Type 0} (P : X → Type 0) (number : ℕ) (j : Judged W X) → Holds P j → Holds P (at_line number j)
-at_line_holds P number (Ok x) h = holds P x (h.of x refl)
-at_line_holds P number (Err e) h = faulty P _
 
 lines_in_order : (before : List Statement) (number : ℕ) (lines : List (List ℕ)) → AreInOrder 0 before → Holds (AreInOrder 0) (statements_from (λ earlier. line_says (declared_by_network earlier)) before number lines)
 lines_in_order before number [] order = holds _ _ order

@@ -1,6 +1,6 @@
 -- A text that is a script says a start and then moves, which name what the network has.
-use Rattle.std.proofs.Common.{◌≡◌, ℕ, ◌<◌, ◌+◌, Bool, true, false, List, [], ◌∷◌, ◌++◌, length, map, Option, Some, None, refl, sym, ap, subst, ◌∙◌, arith}
-use Rattle.std.specs.Prelude.{Result, Ok, Err, IfOk, if◌then◌else◌, codes, position}
+use Rattle.std.proofs.Common.{◌≡◌, ℕ, ◌<◌, ◌+◌, Bool, List, [], ◌∷◌, ◌++◌, length, map, Option, Some, None, refl, sym, ap, subst, ◌∙◌, arith}
+use Rattle.std.specs.Prelude.{Result, Ok, Err, IfOk, codes, position}
 use Rattle.std.specs.List.{AllByRecursion, filter_map, list_all}
 use Rattle.std.specs.Option.{ok_or}
 use Rattle.std.specs.Str.{bytes_eq}
@@ -8,10 +8,11 @@ use Rattle.std.proofs.lemmas.List.{length-map}
 use Rattle.std.proofs.lemmas.List.Quantifiers.{position-Some}
 use Rattle.np_text.specs.Lines.{lines_of}
 use Rattle.np_text.specs.Words.{words_of}
-use Rattle.np_lines.specs.Judging.{Judged, ◌>>=◌, ended, word_in}
+use Rattle.np_lines.specs.Judging.{Judged, ◌>>=◌, word_in}
 use Rattle.np_lines.specs.Reading.{and_one, at_line, statements_from, text_says}
 use Rattle.np_lines.specs.Skipping.{begins_with, is_text_byte}
 use Rattle.np_lines.specs.declared.fault.LineFault.{LineFault}
+use Rattle.np_lines.proofs.HoldingLaws.{Holds, holds, faulty, after, free, either_way, at_line_holds, ended_holds}
 use Rattle.np_net.specs.declared.filtering.Area.{Area}
 use Rattle.np_net.specs.declared.filtering.Interface.{Interface}
 use Rattle.np_net.specs.declared.associations.Sa.{Sa}
@@ -33,40 +34,6 @@ use Rattle.np_script.specs.Judging.{area_in, cross_says, device_named, enter_say
 use Rattle.np_script.specs.Reading.{lines_say, script_from, script_of}
 use Rattle.np_script.specs.Saying.{draft_of, move_in, start_in}
 use Rattle.np_script.specs.Written.{IsStartAndMoves}
-
--- ---- what holds of a value, if there is one
-
--- it holds of what judging gives
-record Holds {W X : Type 0} (P : X → Type 0) (j : Judged W X) : Type 0 where
-  of : (x : X) → j ≡ Ok x → P x
-
-holds : {W X : Type 0} (P : X → Type 0) (x : X) → P x → Holds {W = W} P (Ok x)
-holds {W} P x h = record { of = λ y is. let same : x ≡ y = cc in subst P same h }
-
-faulty : {W X : Type 0} (P : X → Type 0) (e : W) → Holds {X = X} P (Err e)
-faulty P e = record { of = λ y is. cc }
-
--- it goes on through judging
-after : {W X Y : Type 0} (P : X → Type 0) (Q : Y → Type 0) (j : Judged W X) (f : X → Judged W Y) → Holds P j → ((x : X) → P x → Holds Q (f x)) → Holds Q (j >>= f)
-after P Q (Ok x) f p next = next x (p.of x refl)
-after P Q (Err e) f p next = faulty Q e
-
--- whatever the value is
-free : {W X : Type 0} (j : Judged W X) → Holds (λ x. Unit {0}) j
-free j = record { of = λ y is. tt }
-
--- on both ways
-either_way : {W X : Type 0} (P : X → Type 0) (b : Bool) (x y : Judged W X) → Holds P x → Holds P y → Holds P (if b then x else y)
-either_way P true x y h k = h
-either_way P false x y h k = k
-
-at_line_holds : {W X : Type 0} (P : X → Type 0) (number : ℕ) (j : Judged W X) → Holds P j → Holds P (at_line number j)
-at_line_holds P number (Ok x) h = holds P x (h.of x refl)
-at_line_holds P number (Err e) h = faulty P _
-
-ended_holds : {W X : Type 0} (P : X → Type 0) (more : W) (words : List (List ℕ)) (x : X) → P x → Holds P (ended more words x)
-ended_holds P more [] x h = holds P x h
-ended_holds P more (word ∷ words) x h = faulty P more
 
 -- ---- names
 

@@ -26,6 +26,14 @@ pub onward : {W X Y : Type 0} (Q : Y → Type 0) (j : Judged W X) (f : X → Jud
 onward Q (Ok x) f next = next x
 onward Q (Err e) f next = faulty Q e
 
+-- nothing is said of the value
+pub free : {W X : Type 0} (j : Judged W X) → Holds (λ x. Unit {0}) j
+free j = record { of = λ y is. tt }
+
+-- it is what the judging gives
+pub itself : {W X : Type 0} (j : Judged W X) → Holds (λ x. j ≡ Ok x) j
+itself j = record { of = λ y is. is }
+
 -- on both ways
 pub either_way : {W X : Type 0} (P : X → Type 0) (b : Bool) (x y : Judged W X) → Holds P x → Holds P y → Holds P (if b then x else y)
 either_way P true x y h k = h

@@ -1,17 +1,14 @@
 -- From atoms to headers: a verdict that is right of the atoms is right of all valid headers.
-use Rattle.std.proofs.Common.{◌≡◌, ℕ, zero, suc, ◌+◌, ◌*◌, ◌<◌, ◌≤◌, ◌&&◌, Bool, true, false, not, List, [], ◌∷◌, ◌++◌, length, map, get_or, refl, sym, ◌∙◌, ap, subst, inl, inr, arith}
+use Rattle.std.proofs.Common.{◌≡◌, ℕ, zero, suc, ◌+◌, ◌*◌, ◌<◌, ◌≤◌, ◌&&◌, Bool, true, false, not, List, [], ◌∷◌, ◌++◌, length, map, get_or, refl, sym, ◌∙◌, subst, inl, inr, arith}
 use Rattle.std.specs.Prelude.{Option, None, Some, if◌then◌else◌}
 use Rattle.std.specs.Option.{option_map_or}
-use Rattle.std.specs.List.Sorted.{IsStrictlySortedBy}
-use Rattle.std.specs.Ordering.{is_le}
-use Rattle.std.specs.declared.cmp.Ordering.TheVariants.{Less}
 use Rattle.std.proofs.lemmas.Bool.{cases_lt}
 use Rattle.std.proofs.lemmas.List.{get_or_default}
-use Rattle.std.proofs.lemmas.List.Elements.{All-from_recursion}
-use Rattle.np_space.specs.Header.{is_valid_header, IsValid, IsLeastOf, header_order, header_le, zeros}
+use Rattle.np_space.specs.Header.{is_valid_header, IsValid, IsLeastOf, header_le, zeros}
 use Rattle.np_space.specs.declared.headers.Header.{Header}
 use Rattle.np_space.specs.Classes.{IsAlike, IsLeastAlike, HasAlike}
-use Rattle.np_space.proofs.OrderLemmas.{le_chained, le_either}
+use Rattle.np_space.proofs.Listing.{le_later}
+use Rattle.np_space.proofs.OrderLemmas.{le_chained}
 use Rattle.np_acl.specs.declared.entries.Entry.{Entry}
 use Rattle.np_acl.specs.Entries.{list_permits}
 use Rattle.np_atomset.proofs.Sets.{member_within}
@@ -111,35 +108,6 @@ breaks_alike interfaces applied goals h k w alike n d below b =
       forbidden = sym (forbids_alike applied goals h k b.valid w alike n d below) ∙ b.forbidden;
       reaches = reaches_same interfaces (λ slot. applied_lets applied slot h) (λ slot. applied_lets applied slot k) (λ slot _. lets_alike applied goals h k b.valid w alike slot) (goal_at goals d n).from (goal_at goals d n).to b.reaches;
     }
-
--- ---- lists that ascend
-
--- each header of a list that ascends stands before the later ones
-pub before_later : (xs : List Header) (i j : ℕ) (d : Header) → IsStrictlySortedBy header_order xs → i < j → j < length xs → header_order (get_or xs i d) (get_or xs j d) ≡ Less
-unfolding IsStrictlySortedBy
-before_later [] i j d up l m = absurd (omega arith)
-before_later (x ∷ xs) i zero d up l m = absurd (omega arith)
-before_later (x ∷ xs) zero (suc j) d up l m = All-from_recursion (λ z. header_order x z ≡ Less) xs up.0 j d (omega arith)
-before_later (x ∷ xs) (suc i) (suc j) d up l m = before_later xs i j d up.1 (omega arith) (omega arith)
-
--- a header that stands before another is not above it
-le_from_less : (x y : Header) → header_order x y ≡ Less → header_le x y ≡ true
-unfolding header_le
-le_from_less x y less = ap is_le less
-
--- each header is not above itself
-pub le_itself : (x : Header) → header_le x x ≡ true
-le_itself x = elim (le_either x x) [ inl e ↦ e | inr e ↦ e ]
-
--- nor above a later one
-pub le_later : (xs : List Header) (i j : ℕ) (d : Header) → IsStrictlySortedBy header_order xs → i ≤ j → j < length xs → header_le (get_or xs i d) (get_or xs j d) ≡ true
-le_later xs i j d up l m =
-    elim (cases_lt i j) [
-      | inl below ↦ le_from_less (get_or xs i d) (get_or xs j d) (before_later xs i j d up below m)
-      | inr above ↦
-          let same : i ≡ j = omega arith in
-          subst (λ n. header_le (get_or xs i d) (get_or xs n d) ≡ true) same (le_itself (get_or xs i d))
-    ]
 
 -- ---- the atoms of a case
 

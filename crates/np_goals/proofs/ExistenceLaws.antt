@@ -16,7 +16,7 @@ use Rattle.np_goals.specs.Verdicts.{forbids, Breaks, IsVerdict}
 use Rattle.np_goals.specs.Existence.{HaveLeasts, HaveVerdicts}
 use Rattle.np_goals.specs.declared.verdicts.Verdict.{Verdict}
 use Rattle.np_goals.specs.declared.verdicts.Verdict.TheVariants.{Holds, Violated}
-use Rattle.np_goals.proofs.Listing.{headers_of, least_or_none}
+use Rattle.np_space.proofs.Listing.{headers_of, least_or_none}
 
 -- ---- the leasts
 

@@ -11,7 +11,7 @@ use Rattle.np_net.specs.Plan.{Plan}
 use Rattle.np_net.specs.declared.associations.InAction.{InAction}
 use Rattle.np_net.specs.declared.associations.InAction.TheVariants as ins
 use Rattle.np_flow.proofs.FindingLaws.{true_or_false, both_or_not}
-use Rattle.np_goals.proofs.Listing.{least_or_none}
+use Rattle.np_space.proofs.Listing.{least_or_none}
 use Rattle.np_ipsec.specs.Steps.{area_at, area_has}
 use Rattle.np_ipsec.specs.Tables.{has_pop, in_action_of, is_sound, is_trusted_device}
 use Rattle.np_ipsec.specs.declared.tables.Top.TheVariants as tops

@@ -4,7 +4,7 @@ use Rattle.std.proofs.lemmas.Bool.{cases_eq, cases_lt}
 use Rattle.np_space.specs.Header.{IsValid, IsLeastOf}
 use Rattle.np_space.specs.declared.headers.Header.{Header}
 use Rattle.np_space.proofs.HeaderLemmas.{valid_widths}
-use Rattle.np_goals.proofs.Listing.{least_or_none}
+use Rattle.np_space.proofs.Listing.{least_or_none}
 use Rattle.np_ipsec.specs.Searching.{IsFirst}
 
 -- it holds, or it doesn't

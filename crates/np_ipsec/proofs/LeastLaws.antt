@@ -1,7 +1,5 @@
 -- Of the least members of classes, the first of which a statement holds is the least of all headers of which it does.
-use Rattle.std.proofs.Common.{◌≡◌, ◌∙◌, ℕ, ◌<◌, Bool, true, List, length, get_or, Option, Some, None, sym, ap, subst, inl, inr, arith}
-use Rattle.std.specs.Ordering.{is_le}
-use Rattle.std.specs.declared.cmp.Ordering.TheVariants.{Less}
+use Rattle.std.proofs.Common.{◌≡◌, ◌∙◌, ℕ, ◌<◌, Bool, true, List, length, get_or, Option, Some, None, sym, subst, inl, inr, arith}
 use Rattle.std.proofs.lemmas.Bool.{cases_lt}
 use Rattle.std.proofs.lemmas.List.{get_or_default}
 use Rattle.std.proofs.lemmas.List.Elements.{All-contains}
@@ -9,17 +7,8 @@ use Rattle.std.proofs.lemmas.Map.Keys.{Less-from_sorted}
 use Rattle.np_space.specs.Classes.{AreLeasts, IsAlike, IsLeastAlike}
 use Rattle.np_space.specs.Header.{IsLeastOf, IsValid, header_le, header_order, zeros}
 use Rattle.np_space.specs.declared.headers.Header.{Header}
-use Rattle.np_space.proofs.OrderLemmas.{le_chained, le_either}
+use Rattle.np_space.proofs.OrderLemmas.{le_chained, le_from_less, le_itself}
 use Rattle.np_ipsec.specs.Searching.{Finds, FindsListed, IsFirstListed}
-
--- a header that stands before another is not above it
-le_from_less : (x y : Header) → header_order x y ≡ Less → header_le x y ≡ true
-unfolding header_le
-le_from_less x y less = ap is_le less
-
--- no header is above itself
-le_itself : (x : Header) → header_le x x ≡ true
-le_itself x = elim (le_either x x) [ inl e ↦ e | inr e ↦ e ]
 
 module _ (tests : List (Header → Bool)) (leasts : List Header) (are : AreLeasts tests leasts) where
   -- the listed header at a place

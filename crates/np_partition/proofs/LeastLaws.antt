@@ -4,7 +4,7 @@ use Rattle.std.proofs.lemmas.Bool.{cases_lt, cases_eq}
 use Rattle.std.proofs.lemmas.List.{get_or-replicate, get_or_past, length-replicate}
 use Rattle.np_space.specs.Header.{HasWidths, header_le, zeros}
 use Rattle.np_space.specs.declared.headers.Header.{Header}
-use Rattle.np_space.proofs.OrderLemmas.{le_chained, le_either, le_by_fields}
+use Rattle.np_space.proofs.OrderLemmas.{le_chained, le_either, le_itself, le_by_fields}
 use Rattle.np_bdd.specs.Views.{bits_of_header}
 use Rattle.np_bdd.specs.Walking.{AgreeBelow, IsBefore, IsWithBit}
 use Rattle.np_bdd.proofs.CanonicalLaws.{changed, unchanged}
@@ -98,9 +98,6 @@ lesser_from (Some y) x = by (header_le y x)
     by : (b : Bool) → ((if b then y else x) ≡ x) ⊎ (Some y ≡ Some (if b then y else x))
     by true = inr refl
     by false = inl refl
-
-le_itself : (x : Header) → header_le x x ≡ true
-le_itself x = elim (le_either x x) [ inl le ↦ le | inr le ↦ le ]
 
 -- it is at most either
 lesser_le : (slot : Option Header) (x : Header) → header_le (lesser slot x) x ≡ true

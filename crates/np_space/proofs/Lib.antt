@@ -5,6 +5,7 @@ pub mod BlockLemmas
 pub mod ClassLaws
 pub mod FlagLemmas
 pub mod HeaderLemmas
+pub mod Listing
 pub mod MadeLemmas
 pub mod OrderLemmas
 pub mod PatternLemmas

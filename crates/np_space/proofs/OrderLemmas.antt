@@ -54,6 +54,15 @@ le_either x y = by (header_order x y) (header_order y x) (order_total.antisymm x
     by Greater Equal e = inr refl
     by Greater Greater e = inl (ap is_le e)
 
+-- no header is above itself
+pub le_itself : (x : Header) → header_le x x ≡ true
+le_itself x = elim (le_either x x) [ inl e ↦ e | inr e ↦ e ]
+
+-- a header that stands before another is not above it
+pub le_from_less : (x y : Header) → header_order x y ≡ Less → header_le x y ≡ true
+unfolding header_le
+le_from_less x y less = ap is_le less
+
 -- a header none of whose fields is greater stands below
 first_le : (m n : ℕ) (o : Ordering) → m ≤ n → is_le o ≡ true → is_le (ordering_then (nat_cmp m n) o) ≡ true
 first_le m n o le rest = by (nat_cmp m n) (ranked m n (nat_cmp m n) refl)

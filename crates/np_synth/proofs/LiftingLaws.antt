@@ -8,6 +8,7 @@ use Rattle.np_space.specs.Header.{IsValid, IsLeastOf, header_le, zeros}
 use Rattle.np_space.specs.Classes.{cuts_say, IsAlike, IsLeastAlike, HasAlike}
 use Rattle.np_space.specs.declared.headers.Header.{Header}
 use Rattle.np_space.proofs.ClassLaws.{one_for_each_class}
+use Rattle.np_space.proofs.Listing.{le_later}
 use Rattle.np_space.proofs.OrderLemmas.{le_chained}
 use Rattle.np_atomset.proofs.Sets.{equal_sets}
 use Rattle.np_net.specs.Plan.{Plan}
@@ -21,7 +22,7 @@ use Rattle.np_goals.specs.Cases.{IsCaseOf, goal_at}
 use Rattle.np_goals.specs.Verdicts.{Breaks, IsVerdict}
 use Rattle.np_goals.specs.declared.cases.Case.{Case}
 use Rattle.np_goals.specs.declared.verdicts.Verdict.TheVariants.{Holds}
-use Rattle.np_goals.proofs.CaseLaws.{first_same, lets_alike, forbids_alike, le_later}
+use Rattle.np_goals.proofs.CaseLaws.{first_same, lets_alike, forbids_alike}
 use Rattle.np_synth.specs.Choosing.{shut, IsBroken, BreaksSome, IsChosen}
 use Rattle.np_synth.specs.Synthesis.{bad_for, shut_for, IsSynthesis, IsUnattainable}
 use Rattle.np_synth.specs.Headers.{no_goal, forbidding, IsSynthesised, IsUnattained}

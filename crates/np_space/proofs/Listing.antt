@@ -1,5 +1,5 @@
 -- A statement of headers that is decided has a list of its headers, in ascending order.
-use Rattle.std.proofs.Common.{◌≡◌, ◌⊎◌, ℕ, zero, suc, ◌<◌, ◌^◌, Bool, true, false, List, [], ◌∷◌, ◌++◌, length, map, get_or, refl, sym, ◌∙◌, ap, subst, inl, inr, arith, nat_cmp}
+use Rattle.std.proofs.Common.{◌≡◌, ◌⊎◌, ℕ, zero, suc, ◌<◌, ◌≤◌, ◌^◌, Bool, true, false, List, [], ◌∷◌, ◌++◌, length, map, get_or, refl, sym, ◌∙◌, ap, subst, inl, inr, arith, nat_cmp}
 use Rattle.std.specs.Prelude.{nat_eq}
 use Rattle.std.specs.List.{All, Contains}
 use Rattle.std.specs.List.Sorted.{IsStrictlySortedBy}
@@ -8,14 +8,15 @@ use Rattle.std.specs.Cmp.{nat_cmp_is}
 use Rattle.std.specs.Cmp.Lexicographic.{slice_cmp}
 use Rattle.std.specs.declared.cmp.Ordering.{Ordering}
 use Rattle.std.specs.declared.cmp.Ordering.TheVariants.{Less, Equal}
-use Rattle.std.proofs.lemmas.Bool.{cases_eq}
+use Rattle.std.proofs.lemmas.Bool.{cases_eq, cases_lt}
 use Rattle.std.proofs.lemmas.List.{length-map, get_or-map}
 use Rattle.std.proofs.lemmas.List.Elements.{All-nil, All-cons, All-head, All-tail, All-append, All-map, All-weaker, All-from_recursion, recursion_from_All, Contains-push, Contains-append_left, Contains-append_right}
+use Rattle.std.proofs.lemmas.Map.Keys.{Less-from_sorted}
 use Rattle.np_space.specs.Flag.{flag_number}
 use Rattle.np_space.specs.Header.{HasWidths, IsLeastOf, header_order, header_numbers, header_le}
 use Rattle.np_space.specs.declared.headers.Header.{Header}
 use Rattle.np_space.proofs.FlagLemmas.{flag_small}
-use Rattle.np_goals.proofs.CaseLaws.{le_later}
+use Rattle.np_space.proofs.OrderLemmas.{le_from_less, le_itself}
 
 -- ---- lists that ascend
 
@@ -54,6 +55,16 @@ ascend-map order other P f (x ∷ xs) keeps all up =
 contains-map : {X Y : Type 0} (f : X → Y) (xs : List X) (x : X) → Contains xs x → Contains (map f xs) (f x)
 contains-map f xs x c =
     let lt : c.0 < length xs = c.1 in (c.0, omega (arith, length-map xs f), get_or-map f xs c.0 x (f x) lt ∙ ap f c.2)
+
+-- in a list that ascends no header is above itself or a later one
+pub le_later : (xs : List Header) (i j : ℕ) (d : Header) → IsStrictlySortedBy header_order xs → i ≤ j → j < length xs → header_le (get_or xs i d) (get_or xs j d) ≡ true
+le_later xs i j d up l m =
+    elim (cases_lt i j) [
+      | inl below ↦ le_from_less (get_or xs i d) (get_or xs j d) (Less-from_sorted header_order xs i j d up below m)
+      | inr above ↦
+          let same : i ≡ j = omega arith in
+          subst (λ n. header_le (get_or xs i d) (get_or xs n d) ≡ true) same (le_itself (get_or xs i d))
+    ]
 
 -- ---- listings
 

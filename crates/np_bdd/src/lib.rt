@@ -14,4 +14,4 @@ mod walking;
 
 pub use diagrams::Diagrams;
 pub use header_bits::{header_bit, in_widths, with_bit_set};
-pub use views::{Node, View};
+pub use views::{BITS, Node, View};

@@ -32,7 +32,7 @@ pub(crate) const NO: Node = Node { at: 0 };
 pub(crate) const YES: Node = Node { at: 1 };
 
 /// The number of bits of a header.
-pub(crate) const BITS: u8 = 111;
+pub const BITS: u8 = 111;
 
 impl View {
     ghost use Rattle.std.specs.Prelude.{◌≡◌};

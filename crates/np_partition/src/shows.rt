@@ -3,8 +3,7 @@
 ghost use Rattle.std.specs.Prelude.{◌≡◌};
 ghost use Rattle.np_partition.specs.Diagram.{bit_of};
 
-/// The number of bits of a header.
-pub(crate) const BITS: u8 = 111;
+use np_bdd::BITS;
 
 /// What a place of a diagram shows.
 #[derive(Clone, Copy, Debug, PartialEq, Eq)]

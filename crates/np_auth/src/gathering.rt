@@ -9,8 +9,8 @@ ghost use Rattle.np_auth.specs.Passages.{ArePassages, ArePassing, AreUpTo, is_by
 
 use crate::marking::{Passage, Passages};
 use np_atomset::AtomSet;
-use np_ipsec::{Place, Top, area_of, in_action, is_trusted, pops, sound};
-use np_net::{IfId, InAction, Network, SaId};
+use np_ipsec::{Place, Top, in_action, is_trusted, pops, sound};
+use np_net::{IfId, InAction, Network, SaId, area_of};
 use np_space::Header;
 use sqlite_items::Items;
 use std::alloc::{AllocError, Global};

@@ -5,8 +5,8 @@ ghost use Rattle.np_net.specs.Path as path;
 ghost use Rattle.np_ipsec.specs.Steps.{area_at};
 ghost use Rattle.np_conf.specs.Rules.{IsTrustedInterface, IsWayOut};
 
-use np_ipsec::{Place, area_of, is_trusted};
-use np_net::{IfId, Network};
+use np_ipsec::{Place, is_trusted};
+use np_net::{IfId, Network, area_of};
 
 /// Whether an interface is on a trusted area.
 fn is_inside(net: &Network, i: IfId) -> bool

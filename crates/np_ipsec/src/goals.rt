@@ -4,8 +4,8 @@ ghost use Rattle.std.specs.Prelude.{◌≡◌, ◌<◌, ◌↔◌, length, IsTru
 ghost use Rattle.np_ipsec.specs.Goals.{IsForeign, goal_pred};
 ghost use Rattle.np_ipsec.specs.Searching.{FindsFirst};
 
-use crate::places::{Place, area_of, is_trusted};
-use np_net::{IfId, IpGoal, Network};
+use crate::places::{Place, is_trusted};
+use np_net::{IfId, IpGoal, Network, area_of};
 use np_pred::Pred;
 
 /// The predicate of a goal.

@@ -14,5 +14,5 @@ mod tables;
 pub use associations::{good, secret, sound};
 pub use goals::{first_foreign, goal_pred};
 pub use laws::{more_depth_allows_more, plain_headers_stay, steps_stay_inside};
-pub use places::{Motion, Place, area_of, device_of, has_source, is_trusted};
+pub use places::{Motion, Place, has_source, is_trusted};
 pub use tables::{Top, in_action, out_action, pops};

@@ -1,11 +1,10 @@
 //! Where a packet can be, and how it moves.
 
 ghost use Rattle.std.specs.Prelude.{◌≡◌, ◌<◌, length};
-ghost use Rattle.np_net.specs.Path as path;
 ghost use Rattle.np_ipsec.specs.Steps.{IsPlace, area_has, is_trusted_place};
 ghost use Rattle.np_ipsec.specs.Tables.{is_trusted_device};
 
-use np_net::{AreaId, DevId, IfId, Network, SaId};
+use np_net::{AreaId, DevId, IfId, Network, SaId, device_of};
 use np_space::{Header, any_pattern_has};
 
 /// Where a packet is.
@@ -40,25 +39,6 @@ pub fn is_trusted_device(net: &Network, device: DevId) -> bool
     ensures { result ≡ is_trusted_device net.now device }
 {
     net.devices.as_slice()[device as usize].trusted
-}
-
-/// The device that an interface belongs to. `i` is below the number of interfaces.
-pub fn device_of(net: &Network, i: IfId) -> DevId
-    requires { i < length net.now.interfaces }
-    ensures value { result ≡ path.device_of net.now.interfaces i }
-    ensures within { result < length net.now.devices }
-{
-    net.interfaces.as_slice()[i as usize].device
-}
-
-/// The area that an interface is on. `i` is below the number of interfaces.
-#[tactic(auto, using(np_net::proofs::RangeLaws::area_in_range))]
-pub fn area_of(net: &Network, i: IfId) -> AreaId
-    requires { i < length net.now.interfaces }
-    ensures value { result ≡ path.area_of net.now.interfaces i }
-    ensures within { result < length net.now.areas }
-{
-    net.interfaces.as_slice()[i as usize].area
 }
 
 /// Whether a place is trusted: its area is, or the device of its interface (Guttman and Herzog 2005).

@@ -4,8 +4,7 @@ ghost use Rattle.std.specs.Prelude.{◌≡◌, ◌++◌, ◌<◌, length, OnOk};
 ghost use Rattle.np_net_text.specs.CanonicalText.{spaced};
 ghost use Rattle.np_script.specs.Written.{interface_words};
 
-use np_ipsec::device_of;
-use np_net::{IfId, Network, device_name, interface_name};
+use np_net::{IfId, Network, device_name, device_of, interface_name};
 use np_net_text::put_word;
 use std::alloc::AllocError;
 

@@ -2,6 +2,7 @@
 #![tactic(auto)]
 
 mod associations;
+mod belonging;
 mod filtering;
 mod forms;
 mod laws;
@@ -17,6 +18,7 @@ mod sources;
 pub use associations::{
     InAction, InRule, IpGoal, Kind, MarkTest, Match, OutAction, OutRule, Sa, Table,
 };
+pub use belonging::{area_of, device_of};
 pub use filtering::{Area, Device, Goal, Interface};
 pub use forms::{is_interface_name, is_name};
 pub use laws::{limits_are_these, names_are_found};

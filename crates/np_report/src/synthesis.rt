@@ -12,9 +12,9 @@ ghost use Rattle.np_report.specs.Synthesis.{chosen_text, unattainable_text, AreI
 
 use crate::atoms::put_count;
 use crate::sets::put_set;
-use crate::words::{device_of, put_header, put_hops, put_number_word};
+use crate::words::{put_header, put_hops, put_number_word};
 use np_atomset::AtomSet;
-use np_net::{IfId, Network, Path, device_name, interface_name};
+use np_net::{IfId, Network, Path, device_name, device_of, interface_name};
 use np_net_text::put_word;
 use np_space::Header;
 use np_synth::{Chosen, Dropped};

@@ -6,12 +6,11 @@ ghost use Rattle.std.specs.List.{All};
 ghost use Rattle.np_text.specs.Addresses.{dotted};
 ghost use Rattle.np_text.specs.Appending.{AppendsFront};
 ghost use Rattle.np_space.specs.Flag.{flag_number};
-ghost use Rattle.np_net.specs.Path as path;
 ghost use Rattle.np_net_text.specs.CanonicalText.{line_text, lines_text, spaced};
 ghost use Rattle.np_script.specs.Written.{dscp_words, header_words};
 ghost use Rattle.np_report.specs.Words.{hop_words, hop_lines};
 
-use np_net::{DevId, IfId, Network, device_name, interface_name};
+use np_net::{IfId, Network, device_name, device_of, interface_name};
 use np_net_text::put_word;
 use np_space::Header;
 use np_text::{put_address, put_number};
@@ -94,14 +93,6 @@ pub fn put_header(text: &mut Vec<u8>, h: &Header) -> Result<(), AllocError>
     put_ends(text, h.src, h.dst, h.proto)?;
     put_numbers(text, h.a, h.b, h.est)?;
     put_dscp(text, h.dscp)
-}
-
-// The device that an interface belongs to.
-pub(crate) fn device_of(net: &Network, id: IfId) -> DevId
-    requires { id < length net.now.interfaces }
-    ensures { result ≡ path.device_of net.now.interfaces id }
-{
-    net.interfaces.as_slice()[id as usize].device
 }
 
 // Appends the line of a hop.

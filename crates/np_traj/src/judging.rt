@@ -7,10 +7,8 @@ ghost use Rattle.np_traj.specs.Refusals as refusals;
 ghost use Rattle.np_traj.specs.States.{IsStateOf};
 
 use crate::states::{Illegal, State};
-use np_ipsec::{
-    Place, Top, area_of, device_of, in_action, is_trusted, out_action, pops, secret, sound,
-};
-use np_net::{IfId, InAction, Network, OutAction, SaId};
+use np_ipsec::{Place, Top, in_action, is_trusted, out_action, pops, secret, sound};
+use np_net::{IfId, InAction, Network, OutAction, SaId, area_of, device_of};
 
 /// The outermost header of a packet.
 fn top_in<const N: usize>(state: &State<N>) -> Top

@@ -15,8 +15,8 @@ use crate::judging::{
     cross_refusal, enter_refusal, leave_refusal, pop_refusal, unentitled_push_refusal,
 };
 use crate::states::{Illegal, State};
-use np_ipsec::{Motion, Place, area_of, is_trusted};
-use np_net::{IfId, Network, SaId};
+use np_ipsec::{Motion, Place, is_trusted};
+use np_net::{IfId, Network, SaId, area_of};
 
 /// Into a device, by an interface of the area.
 fn enter<const N: usize>(net: &Network, state: &mut State<N>, i: IfId) -> Result<(), Illegal>

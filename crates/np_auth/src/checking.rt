@@ -1,7 +1,6 @@
 //! The check of an authentication goal's local rules, rule by rule.
 
-ghost use Rattle.std.specs.Prelude.{◌≡◌, ◌<◌, ◌↔◌, ℕ, length, slice_index_or, IsTrue, MatchOption};
-ghost use Rattle.np_space.specs.Header.{zeros};
+ghost use Rattle.std.specs.Prelude.{◌≡◌, ◌<◌, ◌↔◌, ℕ, length, IsTrue, MatchOption};
 ghost use Rattle.np_pred.specs.declared.predicate.Pred.{Pred as Predicate};
 ghost use Rattle.np_net.specs.declared.associations.IpGoal.TheVariants as goals;
 ghost use Rattle.np_ipsec.specs.Alike.{AreLeastsFor, KeepsAlike};
@@ -16,7 +15,7 @@ ghost use Rattle.np_auth.specs.Searches.{FindsPassage, IsMeantIn, IsSentAt, is_s
 use crate::answers::{Answer, Broken};
 use crate::marking::{Passage, Passages};
 use np_atomset::AtomSet;
-use np_ipsec::{Place, first_foreign, has_source, is_trusted};
+use np_ipsec::{Place, first_foreign, has_source, header_at, is_trusted};
 use np_net::{AreaId, IfId, IpGoal, Network, SaId};
 use np_pred::Pred;
 use np_space::Header;
@@ -34,14 +33,6 @@ fn first_untrusted(net: &Network, from: AreaId, here: AreaId) -> Option<AreaId>
     } else {
         None
     }
-}
-
-/// The header at a place of the list.
-fn header_at(headers: &[Header], n: usize) -> Header
-    requires { n < length headers.now }
-    ensures { result ≡ slice_index_or headers.now n zeros }
-{
-    headers[n]
 }
 
 /// Whether an area sends packets with this header, and the predicate holds for it.

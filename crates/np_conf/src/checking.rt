@@ -1,7 +1,7 @@
 //! The check of a confidentiality goal's local rules.
 
-ghost use Rattle.std.specs.Prelude.{◌≡◌, ◌↔◌, ℕ, ◌^◌, ◌<◌, ◌≤◌, length, slice_index_or, IfNone, IfSome, IsTrue};
-ghost use Rattle.np_space.specs.Header.{IsLeastOf, zeros};
+ghost use Rattle.std.specs.Prelude.{◌≡◌, ◌↔◌, ℕ, ◌^◌, ◌<◌, ◌≤◌, length, IfNone, IfSome, IsTrue};
+ghost use Rattle.np_space.specs.Header.{IsLeastOf};
 ghost use Rattle.np_space.specs.declared.headers.Header.{Header as Head};
 ghost use Rattle.np_ipsec.specs.Alike.{AreLeastsFor, KeepsAlike};
 ghost use Rattle.np_ipsec.specs.Searching.{FindsFirst, FindsListed, IsFirst};
@@ -18,7 +18,7 @@ use crate::gathering::{is_own, readable_set};
 use crate::leaving::{Outlet, Outlets};
 use crate::ways::is_way_out;
 use np_atomset::AtomSet;
-use np_ipsec::{Place, Top, first_foreign, is_trusted, out_action};
+use np_ipsec::{Place, Top, first_foreign, header_at, is_trusted, out_action};
 use np_net::{AreaId, IfId, IpGoal, Network, OutAction, SaId};
 use np_pred::Pred;
 use np_space::Header;
@@ -37,14 +37,6 @@ fn outlet_at(list: &[Outlet], n: usize) -> &Outlet
     ensures { result.now ≡ outlet_at list.now n }
 {
     &list[n]
-}
-
-/// The header at a place of the list.
-fn header_at(headers: &[Header], n: usize) -> Header
-    requires { n < length headers.now }
-    ensures { result ≡ slice_index_or headers.now n zeros }
-{
-    headers[n]
 }
 
 /// Whether the header at a place is in the set, and an own one.

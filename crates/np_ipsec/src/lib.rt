@@ -8,11 +8,13 @@
 mod associations;
 mod goals;
 mod laws;
+mod listed;
 mod places;
 mod tables;
 
 pub use associations::{good, secret, sound};
 pub use goals::{first_foreign, goal_pred};
 pub use laws::{more_depth_allows_more, plain_headers_stay, steps_stay_inside};
+pub use listed::header_at;
 pub use places::{Motion, Place, has_source, is_trusted};
 pub use tables::{Top, in_action, out_action, pops};

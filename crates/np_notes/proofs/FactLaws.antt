@@ -1,6 +1,6 @@
 -- What is known of a line by what it says.
-use Rattle.std.proofs.Common.{◌≡◌, ◌⊎◌, inl, inr, length, arith, ℕ, Bool, true, false, List, [], ◌∷◌, Option, Some, None, refl, sym, ap, subst, ◌∙◌}
-use Rattle.std.specs.Prelude.{nat_lt, ◌&&◌, ◌||◌, ◌==◌, Ok, Err, is_some, if◌then◌else◌, codes}
+use Rattle.std.proofs.Common.{◌≡◌, ◌⊎◌, inl, inr, length, arith, ℕ, Bool, true, false, List, [], ◌∷◌, Option, Some, None, refl, sym, ap, ◌∙◌}
+use Rattle.std.specs.Prelude.{nat_lt, ◌&&◌, ◌||◌, ◌==◌, Ok, is_some, if◌then◌else◌, codes}
 use Rattle.std.specs.Char.{is_ascii_digit}
 use Rattle.std.specs.Fmt.{decimal}
 use Rattle.std.specs.Str.{all_ascii_digits, bytes_eq}
@@ -8,13 +8,12 @@ use Rattle.std.proofs.lemmas.Bool.Decides.{nat_tests}
 use Rattle.std.proofs.lemmas.Slice.Eq.{bytes_eq-Decides}
 use Rattle.np_text.specs.Numbers.{is_numeral}
 use Rattle.np_text.specs.Words.{words_of}
-use Rattle.np_lines.specs.Judging.{Judged, ◌>>=◌, ended, within}
+use Rattle.np_lines.specs.Judging.{Judged}
 use Rattle.np_lines.specs.Skipping.{begins_with, is_skipped, words_say}
+use Rattle.np_lines.proofs.HoldingLaws.{Holds, holds, faulty, after, free, itself, either_way, ended_holds, within_holds}
 use Rattle.np_acl.specs.declared.kinds.ListKind.{ListKind}
 use Rattle.np_acl.specs.declared.kinds.ListKind.TheVariants.{Extended, Standard}
-use Rattle.np_acl.specs.declared.kinds.Way.{Way}
 use Rattle.np_entry_read.specs.declared.fault.ConfigWhy.{ConfigWhy}
-use Rattle.np_entry_read.specs.declared.fault.ConfigWhy.TheVariants as why
 use Rattle.np_entry_read.specs.Entries.{entry_of}
 use Rattle.np_acl_read.specs.declared.declared.Declared.{Declared}
 use Rattle.np_acl_read.specs.declared.declared.Section.{Section}
@@ -28,35 +27,7 @@ use Rattle.np_acl_read.specs.Words.{action_of, action_word, way_of}
 use Rattle.np_notes.specs.Clean.{SaysEntry}
 use Rattle.np_notes.specs.Shape.{begins_entry, looks_like_entry, word_at}
 
--- ---- what holds of a value, if there is one
-
-abbrev pub Holds : {X : Type 0} → (X → Type 0) → Judged ConfigWhy X → Type 0
-Holds P (Ok x) = P x
-Holds P (Err e) = Unit {0}
-
-after : {X Y : Type 0} (P : X → Type 0) (Q : Y → Type 0) (j : Judged ConfigWhy X) (f : X → Judged ConfigWhy Y) → Holds P j → ((x : X) → P x → Holds Q (f x)) → Holds Q (j >>= f)
-after P Q (Ok x) f p next = next x p
-after P Q (Err e) f p next = tt
-
-free : {X : Type 0} (j : Judged ConfigWhy X) → Holds (λ x. Unit {0}) j
-free (Ok x) = tt
-free (Err e) = tt
-
-itself : {X : Type 0} (j : Judged ConfigWhy X) → Holds (λ x. j ≡ Ok x) j
-itself (Ok x) = refl
-itself (Err e) = tt
-
--- it holds of the value
-pub held : {X : Type 0} (P : X → Type 0) (j : Judged ConfigWhy X) (x : X) → j ≡ Ok x → Holds P j → P x
-held P j x is holds = let Q : Judged ConfigWhy _ → Type 0 = λ k. Holds P k in subst Q is holds
-
 -- ---- the words of an entry
-
-within_is : (P : NumberedEntry → Type 0) (many : ConfigWhy) (limit count : ℕ) (entry : NumberedEntry) → P entry → Holds P (within many limit count entry)
-within_is P many limit count entry is = by (nat_lt count limit) where
-  by : (b : Bool) → Holds P (if b then Ok entry else Err many)
-  by true = is
-  by false = tt
 
 -- an entry of this list that these words say after the action
 abbrev IsSaidBy : List ℕ → ListKind → Bool → List (List ℕ) → NumberedEntry → Type 0
@@ -66,11 +37,11 @@ list_entry_is : (declared : Declared) (list : List ℕ) (kind : ListKind) (numbe
 list_entry_is declared list kind None permit words =
     after (λ e. entry_of kind permit words ≡ Ok e) (IsSaidBy list kind permit words) (entry_of kind permit words) _ (itself (entry_of kind permit words))
     (λ entry is. after (λ n. Unit {0}) (IsSaidBy list kind permit words) (next_number (numbers_in declared.lists list)) _ (free (next_number (numbers_in declared.lists list)))
-    (λ number t. within_is (IsSaidBy list kind permit words) _ entry_limit declared.entries (record { list = list; number = number; entry = entry }) (refl, is)))
+    (λ number t. within_holds (IsSaidBy list kind permit words) _ entry_limit declared.entries (record { list = list; number = number; entry = entry }) (refl, is)))
 list_entry_is declared list kind (Some word) permit words =
     after (λ n. Unit {0}) (IsSaidBy list kind permit words) (sequence_number (numbers_in declared.lists list) word) _ (free (sequence_number (numbers_in declared.lists list) word))
     (λ number t. after (λ e. entry_of kind permit words ≡ Ok e) (IsSaidBy list kind permit words) (entry_of kind permit words) _ (itself (entry_of kind permit words))
-    (λ entry is. within_is (IsSaidBy list kind permit words) _ entry_limit declared.entries (record { list = list; number = number; entry = entry }) (refl, is)))
+    (λ entry is. within_holds (IsSaidBy list kind permit words) _ entry_limit declared.entries (record { list = list; number = number; entry = entry }) (refl, is)))
 
 -- these words are an action, and words that say the rest of the entry; or the first is `remark`
 abbrev IsActed : List ℕ → ListKind → List (List ℕ) → Option NumberedEntry → Type 0
@@ -78,10 +49,10 @@ IsActed list kind words None = word_at words 0 ≡ codes "remark"
 IsActed list kind words (Some entry) = (permit : Bool) × (rest : List (List ℕ)) × (words ≡ action_word permit ∷ rest) × IsSaidBy list kind permit rest entry
 
 acted_is : (declared : Declared) (list : List ℕ) (kind : ListKind) (number : Option (List ℕ)) (word : List ℕ) (words : List (List ℕ)) (action : Option Bool) → action_of word ≡ action → Holds (IsActed list kind (word ∷ words)) (acted declared list kind number word action words)
-acted_is declared list kind number word words None is = tt
+acted_is declared list kind number word words None is = faulty _ _
 acted_is declared list kind number word words (Some permit) is =
     after (IsSaidBy list kind permit words) (IsActed list kind (word ∷ words)) (list_entry declared list kind number permit words) _ (list_entry_is declared list kind number permit words)
-    (λ entry said. (permit, words, ap (λ w. w ∷ words) (by (bytes_eq word (codes "permit")) (bytes_eq word (codes "deny")) permit refl refl is), said))
+    (λ entry said. holds _ (Some entry) (permit, words, ap (λ w. w ∷ words) (by (bytes_eq word (codes "permit")) (bytes_eq word (codes "deny")) permit refl refl is), said))
   where
     by : (first second permit : Bool) → bytes_eq word (codes "permit") ≡ first → bytes_eq word (codes "deny") ≡ second → (if first then Some true else (if second then Some false else None)) ≡ Some permit → word ≡ action_word permit
     by true second true first_is second_is is = (bytes_eq-Decides word (codes "permit")).0 first_is
@@ -92,10 +63,10 @@ acted_is declared list kind number word words (Some permit) is =
 
 entry_or_remark_is : (declared : Declared) (list : List ℕ) (kind : ListKind) (number : Option (List ℕ)) (words : List (List ℕ)) → Holds (IsActed list kind words) (entry_or_remark declared list kind number words)
 unfolding entry_or_remark
-entry_or_remark_is declared list kind number [] = tt
+entry_or_remark_is declared list kind number [] = faulty _ _
 entry_or_remark_is declared list kind number (word ∷ words) = by (bytes_eq word (codes "remark")) refl where
   by : (b : Bool) → bytes_eq word (codes "remark") ≡ b → Holds (IsActed list kind (word ∷ words)) (if b then Ok None else acted declared list kind number word (action_of word) words)
-  by true is = (bytes_eq-Decides word (codes "remark")).0 is
+  by true is = holds _ None ((bytes_eq-Decides word (codes "remark")).0 is)
   by false is = acted_is declared list kind number word words (action_of word) refl
 
 -- these words are a remark, with a number before it or without one
@@ -123,16 +94,13 @@ section_entry_is : (declared : Declared) (list : List ℕ) (kind : ListKind) (wo
 unfolding section_entry
 section_entry_is declared list kind [] = weaker (entry_or_remark declared list kind None []) (entry_or_remark_is declared list kind None []) where
   weaker : (j : Judged ConfigWhy (Option NumberedEntry)) → Holds (IsActed list kind []) j → Holds (IsListLine list kind []) j
-  weaker (Ok entry) is = unnumbered_is list kind [] entry is
-  weaker (Err e) is = tt
+  weaker j is = record { of = λ entry at. unnumbered_is list kind [] entry (is.of entry at) }
 section_entry_is declared list kind (word ∷ words) = by (is_numeral word) refl where
   number : (j : Judged ConfigWhy (Option NumberedEntry)) → is_numeral word ≡ true → Holds (IsActed list kind words) j → Holds (IsListLine list kind (word ∷ words)) j
-  number (Ok entry) numeral is = numbered_is list kind word words entry numeral is
-  number (Err e) numeral is = tt
+  number j numeral is = record { of = λ entry at. numbered_is list kind word words entry numeral (is.of entry at) }
 
   none : (j : Judged ConfigWhy (Option NumberedEntry)) → Holds (IsActed list kind (word ∷ words)) j → Holds (IsListLine list kind (word ∷ words)) j
-  none (Ok entry) is = unnumbered_is list kind (word ∷ words) entry is
-  none (Err e) is = tt
+  none j is = record { of = λ entry at. unnumbered_is list kind (word ∷ words) entry (is.of entry at) }
 
   by : (b : Bool) → is_numeral word ≡ b → Holds (IsListLine list kind (word ∷ words)) (if b then entry_or_remark declared list kind (Some word) words else entry_or_remark declared list kind None (word ∷ words))
   by true numeral = number (entry_or_remark declared list kind (Some word) words) numeral (entry_or_remark_is declared list kind (Some word) words)
@@ -172,9 +140,10 @@ keyword_said section words statement.Other is = tt
 
 module _ (section : Section) where
   line_of_list_is : (declared : Declared) (list : Option (ℕ × ListKind)) (words : List (List ℕ)) → Holds (IsKeywordIn section) (line_of_list declared list words)
-  line_of_list_is declared None words = tt
+  line_of_list_is declared None words = holds _ statement.Other tt
   line_of_list_is declared (Some list) words =
-      after (λ e. Unit {0}) (IsKeywordIn section) (entry_or_remark declared (decimal list.0) list.1 None words) _ (free (entry_or_remark declared (decimal list.0) list.1 None words)) by
+      after (λ e. Unit {0}) (IsKeywordIn section) (entry_or_remark declared (decimal list.0) list.1 None words) _ (free (entry_or_remark declared (decimal list.0) list.1 None words))
+      (λ entry t. holds _ (list_statement (decimal list.0) entry) (by entry t))
     where
       by : (entry : Option NumberedEntry) → Unit {0} → IsKeywordIn section (list_statement (decimal list.0) entry)
       by None t = tt
@@ -182,58 +151,47 @@ module _ (section : Section) where
 
   list_line_is : (declared : Declared) (words : List (List ℕ)) → Holds (IsKeywordIn section) (list_line declared words)
   unfolding list_line
-  list_line_is declared [] = tt
+  list_line_is declared [] = holds _ statement.Other tt
   list_line_is declared (word ∷ words) = line_of_list_is declared (list_number word) words
 
   interface_line_is : (words : List (List ℕ)) → Holds (IsKeywordIn section) (interface_line words)
-  interface_line_is [] = tt
-  interface_line_is (name ∷ words) = tt
+  interface_line_is [] = faulty _ _
+  interface_line_is (name ∷ words) = holds _ (statement.Interface name) tt
 
   open_list_is : (kind : ListKind) (words : List (List ℕ)) → Holds (IsKeywordIn section) (open_list kind words)
   unfolding open_list
-  open_list_is kind [] = tt
-  open_list_is kind (name ∷ []) = tt
-  open_list_is kind (name ∷ more ∷ words) = tt
+  open_list_is kind [] = faulty _ _
+  open_list_is kind (name ∷ []) = holds _ (statement.Section name kind) tt
+  open_list_is kind (name ∷ more ∷ words) = faulty _ _
 
   access_list_is : (words : List (List ℕ)) → Holds (IsKeywordIn section) (access_list words)
   unfolding access_list
-  access_list_is [] = tt
-  access_list_is (word ∷ words) = by (bytes_eq word (codes "extended")) (bytes_eq word (codes "standard")) where
-    by : (extended standard : Bool) → Holds (IsKeywordIn section) (if extended then open_list Extended words else (if standard then open_list Standard words else Ok statement.Other))
-    by true standard = open_list_is Extended words
-    by false true = open_list_is Standard words
-    by false false = tt
-
-ended_is : (more : ConfigWhy) (interface : List ℕ) (way : Way) (list : List ℕ) (words : List (List ℕ)) → Holds (IsKeywordIn (sections.Interface interface)) (ended more words (statement.Group interface way list))
-ended_is more interface way list [] = refl
-ended_is more interface way list (word ∷ words) = tt
+  access_list_is [] = holds _ statement.Other tt
+  access_list_is (word ∷ words) =
+      either_way (IsKeywordIn section) (bytes_eq word (codes "extended")) _ _ (open_list_is Extended words)
+      (either_way (IsKeywordIn section) (bytes_eq word (codes "standard")) _ _ (open_list_is Standard words) (holds _ statement.Other tt))
 
 group_at_is : (interface : List ℕ) (words : List (List ℕ)) → Holds (IsKeywordIn (sections.Interface interface)) (group_at interface words)
 unfolding group_at
-group_at_is interface [] = tt
-group_at_is interface (list ∷ []) = tt
+group_at_is interface [] = faulty _ _
+group_at_is interface (list ∷ []) = faulty _ _
 group_at_is interface (list ∷ word ∷ words) =
-    after (λ w. Unit {0}) (IsKeywordIn (sections.Interface interface)) (way_of word) _ (free (way_of word)) (λ way t. ended_is _ interface way list words)
+    after (λ w. Unit {0}) (IsKeywordIn (sections.Interface interface)) (way_of word) _ (free (way_of word)) (λ way t. ended_holds (IsKeywordIn (sections.Interface interface)) _ words (statement.Group interface way list) refl)
 
 group_line_is : (section : Section) (words : List (List ℕ)) → Holds (IsKeywordIn section) (group_line section words)
-group_line_is sections.Closed words = tt
+group_line_is sections.Closed words = faulty _ _
 group_line_is (sections.Interface name) words = group_at_is name words
-group_line_is (sections.List name kind) words = tt
+group_line_is (sections.List name kind) words = faulty _ _
 
 ip_line_is : (declared : Declared) (words : List (List ℕ)) → Holds (IsKeywordIn declared.section) (ip_line declared words)
 unfolding ip_line
-ip_line_is declared [] = tt
-ip_line_is declared (word ∷ words) = by (bytes_eq word (codes "access-list")) (bytes_eq word (codes "access-group")) where
-  by : (list group : Bool) → Holds (IsKeywordIn declared.section) (if list then access_list words else (if group then group_line declared.section words else Ok statement.Other))
-  by true group = access_list_is declared.section words
-  by false true = group_line_is declared.section words
-  by false false = tt
+ip_line_is declared [] = holds _ statement.Other tt
+ip_line_is declared (word ∷ words) =
+    either_way (IsKeywordIn declared.section) (bytes_eq word (codes "access-list")) _ _ (access_list_is declared.section words)
+    (either_way (IsKeywordIn declared.section) (bytes_eq word (codes "access-group")) _ _ (group_line_is declared.section words) (holds _ statement.Other tt))
 
 no_line_is : (declared : Declared) (words : List (List ℕ)) → Holds (IsKeywordIn declared.section) (no_line declared words)
-no_line_is declared words = by (is_negated declared.section words) where
-  by : (b : Bool) → Holds (IsKeywordIn declared.section) (if b then Err why.Negated else Ok statement.Other)
-  by true = tt
-  by false = tt
+no_line_is declared words = either_way (IsKeywordIn declared.section) (is_negated declared.section words) _ _ (faulty _ _) (holds _ statement.Other tt)
 
 abbrev IfHolds : Section → Option (Judged ConfigWhy Statement) → Type 0
 IfHolds section None = Unit {0}
@@ -250,29 +208,28 @@ keyword_is declared word words = by (bytes_eq word (codes "interface")) (bytes_e
 
 section_line_is : (declared : Declared) (list : List ℕ) (kind : ListKind) (words : List (List ℕ)) → Holds (IsSaidIn (sections.List list kind) words) (section_line declared list kind words)
 section_line_is declared list kind words =
-    after (IsListLine list kind words) (IsSaidIn (sections.List list kind) words) (section_entry declared list kind words) _ (section_entry_is declared list kind words) by
+    after (IsListLine list kind words) (IsSaidIn (sections.List list kind) words) (section_entry declared list kind words) _ (section_entry_is declared list kind words)
+    (λ entry is. holds _ (section_statement entry) (by entry is))
   where
     by : (entry : Option NumberedEntry) → IsListLine list kind words entry → IsSaidIn (sections.List list kind) words (section_statement entry)
     by None is = inr (refl, is)
     by (Some entry) is = (kind, ap (λ l. sections.List l kind) (sym is.0), is.1)
 
 other_line_is : (declared : Declared) (section : Section) (word : List ℕ) (words : List (List ℕ)) → Holds (IsSaidIn section words) (other_line declared section word words)
-other_line_is declared sections.Closed word words = tt
-other_line_is declared (sections.Interface name) word words = tt
-other_line_is declared (sections.List name kind) word words = by (begins_list_line word) where
-  by : (b : Bool) → Holds (IsSaidIn (sections.List name kind) words) (if b then section_line declared name kind words else Ok (Some statement.Other))
-  by true = section_line_is declared name kind words
-  by false = tt
+other_line_is declared sections.Closed word words = holds _ (Some statement.Other) tt
+other_line_is declared (sections.Interface name) word words = holds _ (Some statement.Other) tt
+other_line_is declared (sections.List name kind) word words =
+    either_way (IsSaidIn (sections.List name kind) words) (begins_list_line word) _ _ (section_line_is declared name kind words) (holds _ (Some statement.Other) tt)
 
 said_or_other_is : (declared : Declared) (o : Option (Judged ConfigWhy Statement)) (word : List ℕ) (words : List (List ℕ)) → IfHolds declared.section o → Holds (IsSaidIn declared.section words) (said_or_other declared o word words)
-said_or_other_is declared None word words holds = other_line_is declared declared.section word words
-said_or_other_is declared (Some judged) word words holds = after (IsKeywordIn declared.section) (IsSaidIn declared.section words) judged _ holds (λ s is. keyword_said declared.section words s is)
+said_or_other_is declared None word words is = other_line_is declared declared.section word words
+said_or_other_is declared (Some judged) word words is = after (IsKeywordIn declared.section) (IsSaidIn declared.section words) judged _ is (λ s keyword. holds _ (Some s) (keyword_said declared.section words s keyword))
 
 words_are : (declared : Declared) (words : List (List ℕ)) → Holds (IsSaidIn declared.section words) (words_say 33 (line_with declared) words)
-words_are declared [] = inl refl
+words_are declared [] = holds _ None (inl refl)
 words_are declared (word ∷ words) = by (begins_with 33 word) refl where
   by : (b : Bool) → begins_with 33 word ≡ b → Holds (IsSaidIn declared.section (word ∷ words)) (if b then Ok None else line_with declared word words)
-  by true is = inl is
+  by true is = holds _ None (inl is)
   by false is = said_or_other_is declared (keyword_says declared word words) word (word ∷ words) (keyword_is declared word words)
 
 line_is : (declared : Declared) (line : List ℕ) → Holds (IsSaidIn declared.section (words_of line)) (line_says declared line)
@@ -281,7 +238,7 @@ line_is declared line = words_are declared (words_of line)
 
 -- what is known of what a line says
 pub said_in : (declared : Declared) (line : List ℕ) (said : Option Statement) → line_says declared line ≡ Ok said → IsSaidIn declared.section (words_of line) said
-said_in declared line said is = held (IsSaidIn declared.section (words_of line)) (line_says declared line) said is (line_is declared line)
+said_in declared line said is = (line_is declared line).of said is
 
 -- ---- lines that look like entries
 
@@ -379,15 +336,16 @@ no_remark first second looks (inr is) =
 
 section_looking : (declared : Declared) (list : List ℕ) (kind : ListKind) (words : List (List ℕ)) → looks_like_entry (word_at words 0) (word_at words 1) ≡ true → Holds (IsLookingIn (sections.List list kind)) (section_line declared list kind words)
 section_looking declared list kind words looks =
-    after (IsListLine list kind words) (IsLookingIn (sections.List list kind)) (section_entry declared list kind words) _ (section_entry_is declared list kind words) by
+    after (IsListLine list kind words) (IsLookingIn (sections.List list kind)) (section_entry declared list kind words) _ (section_entry_is declared list kind words)
+    (λ entry is. holds _ (section_statement entry) (by entry is))
   where
     by : (entry : Option NumberedEntry) → IsListLine list kind words entry → IsLookingIn (sections.List list kind) (section_statement entry)
     by None is = no_remark (word_at words 0) (word_at words 1) looks is
     by (Some entry) is = tt
 
 other_looking : (declared : Declared) (section : Section) (word : List ℕ) (words : List (List ℕ)) → begins_list_line word ≡ true → looks_like_entry (word_at words 0) (word_at words 1) ≡ true → Holds (IsLookingIn section) (other_line declared section word words)
-other_looking declared sections.Closed word words begins looks = refl
-other_looking declared (sections.Interface name) word words begins looks = refl
+other_looking declared sections.Closed word words begins looks = holds _ (Some statement.Other) refl
+other_looking declared (sections.Interface name) word words begins looks = holds _ (Some statement.Other) refl
 other_looking declared (sections.List name kind) word words begins looks = rw begins (section_looking declared name kind words looks)
 
 no_keyword : (declared : Declared) (word : List ℕ) (words : List (List ℕ)) → MayBegin word → keyword_says declared word words ≡ None
@@ -406,4 +364,4 @@ line_looking declared line looks = words_looking declared (words_of line) looks
 
 -- what a line says that looks like an entry
 pub looking_in : (declared : Declared) (line : List ℕ) (said : Option Statement) → line_says declared line ≡ Ok said → looks_like_entry (word_at (words_of line) 0) (word_at (words_of line) 1) ≡ true → IsLookingIn declared.section said
-looking_in declared line said is looks = held (IsLookingIn declared.section) (line_says declared line) said is (line_looking declared line looks)
+looking_in declared line said is looks = (line_looking declared line looks).of said is

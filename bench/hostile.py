@@ -167,27 +167,26 @@ def devices(files):
 
 
 def shared():
-    """256 devices that name one file of 16 MiB."""
-    net = devices(['r.cfg'])
+    """256 devices that name one file of 16 MiB, or two in turn."""
     entries = 'interface e0\n ip access-group 100 in\n'
     entries += ''.join(f'access-list 100 deny tcp host {address(k * 4099)} any\n' for k in range(20000))
-    for name, line, first in [('of !', b'!\n', b''), ('of lines of one word', b'a\n', b''), ('of 20,000 entries and !', b'!\n', entries.encode())]:
-        config = lambda line=line, first=first: full(line, first)
-        for command in ('check', 'notes'):
-            yield f'256 devices, one file {name}: {command}', {'net': net, 'r.cfg': config}, [command, 'net'], None
-
-
-def large():
-    """256 devices that name two files of 16 MiB in turn, or one of very many lists or groups; and a long interface's name."""
-    net = devices(['r.cfg', 's.cfg'])
+    of = {
+        '!': lambda: full(b'!\n'),
+        'lines of one word': lambda: full(b'a\n'),
+        '20,000 entries and !': lambda: full(b'!\n', entries.encode()),
+        '540,000 lists': lambda: b''.join(b'ip access-list extended %06d\n' % k for k in range(540000)),
+        '430,000 groups': lambda: b''.join(b'interface %06d\nip access-group A in\n' % k for k in range(430000)),
+    }
+    for name, config in of.items():
+        yield f'256 devices, one file of {name}: check', {'net': devices(['r.cfg']), 'r.cfg': config}, ['check', 'net'], None
+    for name in ('!', 'lines of one word', '20,000 entries and !', '540,000 lists'):
+        yield f'256 devices, one file of {name}: notes', {'net': devices(['r.cfg']), 'r.cfg': of[name]}, ['notes', 'net'], None
     for command in ('check', 'notes'):
-        yield f'256 devices, two files of ! in turn: {command}', {'net': net, 'r.cfg': lambda: full(b'!\n'), 's.cfg': lambda: full(b'!\n')}, [command, 'net'], None
-    lists = lambda: b''.join(b'ip access-list extended %06d\n' % k for k in range(540000))
-    groups = lambda: b''.join(b'interface %06d\nip access-group A in\n' % k for k in range(430000))
-    for what, config in (('540,000 lists', lists), ('430,000 groups', groups)):
-        for count in (1, 16, 256):
-            net = devices(['r.cfg']) if count == 256 else ''.join(f'device d{k} config r.cfg\n' for k in range(count))
-            yield f'{count} devices, one file of {what}: check', {'net': net, 'r.cfg': config}, ['check', 'net'], None
+        yield f'256 devices, two files of ! in turn: {command}', {'net': devices(['r.cfg', 's.cfg']), 'r.cfg': of['!'], 's.cfg': of['!']}, [command, 'net'], None
+
+
+def long_name():
+    """An interface's name of 64 KiB, and very many lines that apply a list there."""
     groups = lambda: full(b'ip access-group A in\n', b'interface ' + b'x' * 65536 + b'\n')
     for command in ('check', 'notes'):
         yield f'an interface name of 64 KiB and its groups: {command}', {'net': NET, 'r.cfg': groups}, [command, 'net'], None
@@ -338,7 +337,7 @@ def main():
     program = os.path.abspath(sys.argv[1])
     word = sys.argv[2] if len(sys.argv) > 2 else ''
     runs = wrongs = 0
-    for bound, kinds in ((SECONDS, (filled, nested, prefixes, shared)), (None, (named, large, names, wide, grown))):
+    for bound, kinds in ((SECONDS, (filled, nested, prefixes, shared)), (None, (named, long_name, names, wide, grown))):
         for name, files, words, expected in (case for cases in kinds for case in cases()):
             if word not in name:
                 continue

@@ -3,7 +3,7 @@
 //! to be timed. The configurations are read from the current folder.
 #![tactic(auto)]
 
-use np_acl_read::{Config, empty_config, read_config};
+use np_acl_read::{Config, SharedConfig, empty_config, read_config};
 use np_atomizer::Atomizer;
 use np_bdd::Diagrams;
 use np_cut::{apply, filter_cuts};
@@ -30,7 +30,7 @@ fn config(alloc: Global, bytes: &[u8]) -> Result<Config, AllocError> {
 }
 
 /// The line of a network with these configurations.
-fn line(alloc: Global, net: &Network, configs: Vec<Config>) -> Result<String, AllocError> {
+fn line(alloc: Global, net: &Network, configs: &[SharedConfig]) -> Result<String, AllocError> {
     let mut store = Diagrams::new(alloc)?;
     let applied = apply(alloc, net, configs)?;
     let cuts = filter_cuts(alloc, &mut store, net, &applied)?;
@@ -44,14 +44,14 @@ fn line(alloc: Global, net: &Network, configs: Vec<Config>) -> Result<String, Al
 }
 
 /// The configurations of a network's devices.
-fn configs(rt: &HostRuntime, alloc: Global, net: &Network) -> Result<Vec<Config>, io::Error> {
+fn configs(rt: &HostRuntime, alloc: Global, net: &Network) -> Result<Vec<SharedConfig>, io::Error> {
     let mut configs = Vec::new(alloc);
     for device in net.devices.as_slice() {
         let config = match &device.config {
             Some(name) => config(alloc, text(rt, alloc, name.bytes())?.as_bytes())?,
             None => empty_config(alloc),
         };
-        configs.push(config)?;
+        configs.push(SharedConfig::of(alloc, config)?)?;
     }
     Ok(configs)
 }
@@ -62,7 +62,7 @@ fn main(rt: HostRuntime) -> Result<(), io::Error> {
         let text = fs::read_to_string(&rt, file.as_str())?;
         if let Ok(net) = read_net(alloc, text.as_bytes()) {
             let configs = configs(&rt, alloc, &net)?;
-            print!(&rt; "{}", line(alloc, &net, configs)?)?;
+            print!(&rt; "{}", line(alloc, &net, configs.as_slice())?)?;
         }
     }
     Ok(())

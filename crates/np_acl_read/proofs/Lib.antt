@@ -1,4 +1,3 @@
-pub mod CopyLaws
 pub mod CountingLaws
 pub mod DeclarationLaws
 pub mod EntryLines

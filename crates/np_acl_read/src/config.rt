@@ -1,6 +1,6 @@
 //! A device's configuration: its access lists, and where they are applied.
 
-ghost use Rattle.std.specs.Prelude.{◌≡◌, ℕ, [], ◌∷◌, ◌++◌, List as ListOf, length, slice_get, option_map, false, None, IsSorted, IfOk, OnOk, OnErr};
+ghost use Rattle.std.specs.Prelude.{◌≡◌, ℕ, [], ◌∷◌, ◌++◌, List as ListOf, length, slice_get, option_map, None, IsSorted, IfOk, OnOk, OnErr};
 ghost use Rattle.std.specs.Map.Iter.{deref_pair};
 ghost use Rattle.std.specs.Cmp.Lexicographic.{slice_cmp};
 ghost use Rattle.std.specs.List.{IsDistinct};
@@ -16,6 +16,7 @@ use np_acl::List;
 use np_text::Name;
 use std::alloc::{AllocError, Global};
 use std::marker::Model;
+use std::sync::Arc;
 
 /// Access lists by their names, each name once, in the order in which the names first appear in the
 /// text.
@@ -70,15 +71,6 @@ impl Lists {
         self.lists.get_index(place)
     }
 
-    /// Takes the list of this name out, if there is one. The others' places may change.
-    pub fn take(&mut self, name: &Name) -> Option<List>
-        ensures taken { result ≡ lookup (bytes_eq name.now) self.old }
-        ensures others { (other : ListOf ℕ) → bytes_eq name.now other ≡ false → lookup (bytes_eq other) self.new ≡ lookup (bytes_eq other) self.old }
-        ensures gone { lookup (bytes_eq name.now) self.new ≡ None }
-    {
-        self.lists.swap_remove(name)
-    }
-
     /// Puts the lists into the byte order of their names. Where memory runs out, they stay as they
     /// were.
     pub fn sort_by_name(&mut self) -> Result<(), AllocError>
@@ -98,18 +90,6 @@ impl Lists {
         self.lists.insert(name, list)?;
         Ok(())
     }
-
-    /// The same lists in the same order, copied. An error comes only where memory runs out.
-    #[tactic(auto, using(crate::proofs::CopyLaws::next_is_new))]
-    pub fn copy(&self, alloc: Global) -> Result<Lists, AllocError>
-        ensures { IfOk result (λ copy. copy ≡ self.now) }
-    {
-        let mut copy = Lists::new(alloc);
-        for (name, list) in self.lists.iter() {
-            copy.add(name.copy(alloc)?, list.copy(alloc)?)?;
-        }
-        Ok(copy)
-    }
 }
 
 /// A configuration.
@@ -119,14 +99,42 @@ pub struct Config {
     pub groups: Groups,
 }
 
-impl Config {
-    /// The same configuration, copied. An error comes only where memory runs out.
-    pub fn copy(&self, alloc: Global) -> Result<Config, AllocError>
-        ensures { IfOk result (λ copy. copy ≡ self.now) }
+/// A configuration of which several devices may have a share, so that none is copied.
+#[derive(Drop)]
+pub struct SharedConfig {
+    config: Arc<Config>,
+}
+
+impl Model for SharedConfig {
+    ghost use Rattle.np_acl_read.specs.declared.config.Config.{Config};
+
+    ghost Value = { Config };
+
+    ghost view = { λ shared. shared.config.value };
+}
+
+impl SharedConfig {
+    /// This configuration. Fails only for want of memory.
+    pub fn of(alloc: Global, config: Config) -> Result<SharedConfig, AllocError>
+        ensures { IfOk result (λ shared. shared ≡ config) }
     {
-        let lists = self.lists.copy(alloc)?;
-        let groups = self.groups.copy(alloc)?;
-        Ok(Config { lists, groups })
+        let config = Arc::new(alloc, config)?;
+        Ok(SharedConfig { config })
+    }
+
+    /// A share of the same configuration. Fails only where there are 2^63 shares.
+    pub fn share(&self) -> Result<SharedConfig, AllocError>
+        ensures { IfOk result (λ shared. shared ≡ self.now) }
+    {
+        let config = self.config.clone()?;
+        Ok(SharedConfig { config })
+    }
+
+    /// The configuration.
+    pub fn get(&self) -> &Config
+        ensures { result.now ≡ self.now }
+    {
+        &self.config
     }
 }
 

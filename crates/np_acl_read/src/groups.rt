@@ -1,6 +1,6 @@
 //! Where access lists are applied.
 
-ghost use Rattle.std.specs.Prelude.{◌≡◌, [], ◌∷◌, ◌++◌, length, None, IfOk, OnOk, OnErr};
+ghost use Rattle.std.specs.Prelude.{◌≡◌, length, OnOk, OnErr};
 ghost use Rattle.std.specs.List.{IsDistinct};
 ghost use Rattle.std.specs.Map.{keys_of, lookup};
 ghost use Rattle.std.specs.Option.{option_copied};
@@ -32,30 +32,6 @@ impl Model for Groups {
     ghost view = { λ groups. record { inward = groups.inward.entries; outward = groups.outward.entries } };
 
     ghost invariant = { λ groups. IsDistinct bytes_eq (keys_of groups.inward.entries) × IsDistinct bytes_eq (keys_of groups.outward.entries) };
-}
-
-/// Applies a list at an interface that isn't among these.
-fn add(names: &mut IndexMap<Name, Name>, interface: Name, list: Name) -> Result<(), AllocError>
-    requires { lookup (bytes_eq interface) names.old.entries ≡ None }
-    ensures { OnOk result (names.new.entries ≡ names.old.entries ++ (interface, list) ∷ []) }
-{
-    names.insert(interface, list)?;
-    Ok(())
-}
-
-/// The same lists at the same interfaces, copied.
-#[tactic(auto, using(crate::proofs::CopyLaws::next_is_new))]
-fn copy_names(
-    alloc: Global,
-    names: &IndexMap<Name, Name>,
-) -> Result<IndexMap<Name, Name>, AllocError>
-    ensures { IfOk result (λ copy. copy.entries ≡ names.now.entries) }
-{
-    let mut copy = IndexMap::new(alloc);
-    for (interface, list) in names.iter() {
-        add(&mut copy, interface.copy(alloc)?, list.copy(alloc)?)?;
-    }
-    Ok(copy)
 }
 
 impl Groups {
@@ -106,13 +82,5 @@ impl Groups {
             }
         }
         Ok(())
-    }
-    /// The same groups, copied. An error comes only where memory runs out.
-    pub fn copy(&self, alloc: Global) -> Result<Groups, AllocError>
-        ensures { IfOk result (λ copy. copy ≡ self.now) }
-    {
-        let inward = copy_names(alloc, &self.inward)?;
-        let outward = copy_names(alloc, &self.outward)?;
-        Ok(Groups { inward, outward })
     }
 }

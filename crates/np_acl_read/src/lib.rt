@@ -14,7 +14,7 @@ mod reading;
 mod statement;
 mod words;
 
-pub use config::{Config, Lists, empty_config};
+pub use config::{Config, Lists, SharedConfig, empty_config};
 pub use declared::{Declared, Section};
 pub use fault::{ConfigError, ConfigFault};
 pub use groups::Groups;

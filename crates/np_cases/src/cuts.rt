@@ -1,8 +1,7 @@
 //! What configurations apply at the slots of a network, and its cuts.
 
-use np_acl_read::read_config;
+use np_acl_read::{SharedConfig, read_config};
 use np_cut::{Applied, apply, filter_cuts, lets};
-use np_net::Network;
 use np_net_read::read_net;
 use np_region::BlockLists;
 use np_space::Header;
@@ -50,16 +49,16 @@ fn to_port(proto: u8, b: u16) -> Header {
     }
 }
 
-// What is applied, of the network and the two configurations.
-fn all_applied(alloc: Global, net: &Network) -> Result<Applied, Fail> {
+// The two configurations.
+fn both(alloc: Global) -> Result<Vec<SharedConfig>, Fail> {
     let mut configs = Vec::new(alloc);
-    configs.push(read_config(alloc, FIRST)?)?;
-    configs.push(read_config(alloc, SECOND)?)?;
-    Ok(apply(alloc, net, configs)?)
+    configs.push(SharedConfig::of(alloc, read_config(alloc, FIRST)?)?)?;
+    configs.push(SharedConfig::of(alloc, read_config(alloc, SECOND)?)?)?;
+    Ok(configs)
 }
 
 // The place of the list at a slot, and whether it lets a header of the shell and one of names cross.
-fn at_slot(applied: &Applied, slot: usize) -> (Option<usize>, bool, bool) {
+fn at_slot(applied: &Applied<'_>, slot: usize) -> (Option<usize>, bool, bool) {
     if slot < applied.at.len() {
         let shell = lets(applied, slot, &to_port(6, 22));
         let names = lets(applied, slot, &to_port(17, 53));
@@ -72,7 +71,8 @@ fn at_slot(applied: &Applied, slot: usize) -> (Option<usize>, bool, bool) {
 #[test]
 fn lists_at_slots(rt: HostRuntime) -> Result<(), Fail> {
     let net = read_net(rt.alloc(), NET)?;
-    let applied = all_applied(rt.alloc(), &net)?;
+    let configs = both(rt.alloc())?;
+    let applied = apply(rt.alloc(), &net, configs.as_slice())?;
     for (slot, found) in [
         (0, (Some(0), false, true)),
         (1, (None, true, true)),
@@ -92,7 +92,8 @@ fn lists_at_slots(rt: HostRuntime) -> Result<(), Fail> {
 #[test]
 fn cuts_of_lists_and_goals(rt: HostRuntime) -> Result<(), Fail> {
     let net = read_net(rt.alloc(), NET)?;
-    let applied = all_applied(rt.alloc(), &net)?;
+    let configs = both(rt.alloc())?;
+    let applied = apply(rt.alloc(), &net, configs.as_slice())?;
     let mut store = BlockLists::new(rt.alloc());
     let cuts = filter_cuts(rt.alloc(), &mut store, &net, &applied)?;
     assert_eq!(rt; cuts.len(), 3);

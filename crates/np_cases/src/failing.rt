@@ -174,18 +174,27 @@ fn a_configuration_that_is_not_there(rt: HostRuntime) -> Result<(), Fail> {
     )
 }
 
-/// A shelf with two devices between the same areas, both with one configuration file, which denies TCP.
-fn held_twice(alloc: Global) -> Result<MemShelf, AllocError> {
+/// A shelf with three devices between the same areas, whose configurations deny TCP. The first and the third have one in the
+/// same file.
+fn held_by_three(alloc: Global) -> Result<MemShelf, AllocError> {
     let net = filtered(
         alloc,
-        "never tcp\ndevice s config r.cfg\ninterface s e0 out\ninterface s e1 lan",
+        "never tcp\ndevice s config s.cfg\ninterface s e0 out\ninterface s e1 lan\n\
+         device t config r.cfg\ninterface t e0 out\ninterface t e1 lan",
     )?;
     let config = applied(alloc, TCP_DENIED)?;
-    shelf(alloc, &[("net", net.as_str()), ("r.cfg", config.as_str())])
+    shelf(
+        alloc,
+        &[
+            ("net", net.as_str()),
+            ("r.cfg", config.as_str()),
+            ("s.cfg", config.as_str()),
+        ],
+    )
 }
 
 /// Expects this report on these files, of which each is read once: the begin, the read and the last read of each, and no
-/// more. A seventh call would fail.
+/// more. A tenth call would fail.
 fn expect_read_once<R: Threads + Sync + Abort>(
     rt: &R,
     alloc: Global,
@@ -194,8 +203,8 @@ fn expect_read_once<R: Threads + Sync + Abort>(
     text: &[u8],
     number: u8,
 ) -> Result<(), Fail> {
-    let mut files = held_twice(alloc)?;
-    files.fail_at(7)?;
+    let mut files = held_by_three(alloc)?;
+    files.fail_at(10)?;
     expect_over(rt, alloc, case, line, &mut files, text, number)?;
     assert_eq!(rt; files.faults(), 0);
     Ok(())
@@ -203,7 +212,8 @@ fn expect_read_once<R: Threads + Sync + Abort>(
 
 #[test]
 fn a_file_of_two_devices_is_read_once(rt: HostRuntime) -> Result<(), Fail> {
-    let notes = b"note r.cfg no-interface e1\nnote r.cfg no-interface e1\nnotes\n";
+    let notes =
+        b"note r.cfg no-interface e1\nnote s.cfg no-interface e1\nnote r.cfg no-interface e1\nnotes\n";
     expect_read_once(&rt, rt.alloc(), "its check", &["check", "net"], HELD, 0)?;
     expect_read_once(&rt, rt.alloc(), "its notes", &["notes", "net"], notes, 1)
 }

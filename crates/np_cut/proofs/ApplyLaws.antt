@@ -1,6 +1,6 @@
--- What configurations apply: the lists that are taken out, and what they let cross.
-use Rattle.std.proofs.Common.{◌≡◌, ℕ, ◌+◌, ◌*◌, ◌/◌, ◌<◌, ◌≤◌, Bool, true, false, List, [], ◌∷◌, ◌++◌, length, get_or, set, take, map, Option, Some, None, Result, Ok, Err, IfOk, refl, sym, ◌∙◌, ap, subst, arith, inl, inr}
-use Rattle.std.specs.Prelude.{◌||◌, IfSome, option_and_then, unwrap_or}
+-- What configurations apply: the lists, and what they let cross.
+use Rattle.std.proofs.Common.{rules, ◌≡◌, ℕ, ◌+◌, ◌*◌, ◌/◌, ◌<◌, ◌≤◌, Bool, true, false, List, [], ◌∷◌, ◌++◌, length, get_or, set, take, map, Option, Some, None, Result, Ok, Err, IfOk, refl, sym, ◌∙◌, ap, subst, arith, inl, inr}
+use Rattle.std.specs.Prelude.{◌||◌, IfSome, IsSome, option_and_then, option_map, unwrap_or}
 use Rattle.std.specs.List.{AllByRecursion, range_with_len}
 use Rattle.std.specs.Map.{lookup}
 use Rattle.std.specs.Option.{option_map_or}
@@ -18,7 +18,7 @@ use Rattle.np_net.specs.Distinct.{AreDistinct, same_place}
 use Rattle.np_net.specs.Network.{IsNetwork}
 use Rattle.np_net.specs.Plan.{Plan}
 use Rattle.np_net.proofs.RangeLaws.{device_in_range}
-use Rattle.np_cut.specs.Applying.{applied_of, key_list, list_with_entries, named_key, names_of_keys, place_in, slot_config, slot_interface, slot_key, slot_keys, slot_lets, slot_name}
+use Rattle.np_cut.specs.Applying.{AreThere, applied_of, config_at, key_list, list_there, list_with_entries, named_key, names_of_keys, place_in, some_entries, slot_config, slot_interface, slot_key, slot_keys, slot_lets, slot_name}
 use Rattle.np_cut.specs.AppliedLists.{AppliedLists, IsApplied, applied_lets}
 use Rattle.np_cut.proofs.KeyLaws.{StandsAt, key_device, key_stands, names_distinct, names_hold, place_within}
 
@@ -79,13 +79,18 @@ applied_is interfaces configs slot within h =
     by_name None r = refl
     by_name (Some name) r = by_list name (lookup (bytes_eq name) config.lists) refl r
 
+-- past the last slot there is no key
+no_key_past : (interfaces : List Interface) (configs : List Config) (slot : ℕ) → 2 * length interfaces ≤ slot → get_or (slot_keys interfaces configs) slot None ≡ None
+no_key_past interfaces configs slot past =
+    get_or_past (slot_keys interfaces configs) slot None (omega (arith, length-map (range_with_len 0 (2 * length interfaces)) (slot_key interfaces configs), length-range_with_len 0 (2 * length interfaces)))
+
+some_is_none : (k : ℕ × List ℕ) → None ≡ Some k → ⊥
+some_is_none k e = cc
+
 -- the devices of the lists are devices of the network
 devices_within : (net : Plan) (configs : List Config) → IsNetwork net → AllByRecursion (λ name. name.0 < length net.devices) (names_of_keys (slot_keys net.interfaces configs))
 devices_within net configs is = names_hold (λ name. name.0 < length net.devices) (slot_keys net.interfaces configs) of_slot
   where
-    some_is_none : (k : ℕ × List ℕ) → None ≡ Some k → ⊥
-    some_is_none k e = cc
-
     of_slot : (slot : ℕ) (k : ℕ × List ℕ) → get_or (slot_keys net.interfaces configs) slot None ≡ Some k → k.0 < length net.devices
     of_slot slot k e =
         elim (cases_lt slot (2 * length net.interfaces)) [
@@ -94,11 +99,29 @@ devices_within net configs is = names_hold (λ name. name.0 < length net.devices
               let device : k.0 ≡ (slot_interface net.interfaces slot).device =
               key_device config.lists (slot_interface net.interfaces slot).device (slot_name net.interfaces configs slot) k (sym (key_read net.interfaces configs slot within) ∙ e) in
               subst (λ n. n < length net.devices) (sym device) (device_in_range net is (slot / 2) (omega arith))
-          | inr past ↦
-              let none : get_or (slot_keys net.interfaces configs) slot None ≡ None =
-              get_or_past (slot_keys net.interfaces configs) slot None (omega (arith, length-map (range_with_len 0 (2 * length net.interfaces)) (slot_key net.interfaces configs), length-range_with_len 0 (2 * length net.interfaces))) in
-              absurd (some_is_none k (sym none ∙ e))
+          | inr past ↦ absurd (some_is_none k (sym (no_key_past net.interfaces configs slot past) ∙ e))
         ]
+
+-- a key of a device's list is that of a list that is there
+key_there : (configs : List Config) (device : ℕ) (name : Option (List ℕ)) (k : ℕ × List ℕ) → option_and_then (named_key (config_at configs device).lists device) name ≡ Some k → IsSome (list_there configs k)
+key_there configs device None k e = cc
+key_there configs device (Some name) k e = by (lookup (bytes_eq name) (config_at configs device).lists) refl e
+  where
+    by : (found : Option (List Entry)) → lookup (bytes_eq name) (config_at configs device).lists ≡ found → option_map (λ list. (device, name)) (option_and_then some_entries found) ≡ Some k → IsSome (list_there configs k)
+    by None f e = cc
+    by (Some []) f e = cc
+    by (Some (x ∷ xs)) f e = let same : (device, name) ≡ k = cc in subst (λ j. IsSome (list_there configs j)) same (rw f (search rules))
+
+-- so the lists of the slots' keys are there
+pub slots_there : (interfaces : List Interface) (configs : List Config) → AreThere configs (slot_keys interfaces configs)
+slots_there interfaces configs slot k e =
+    elim (cases_lt slot (2 * length interfaces)) [
+      | inl within ↦ key_there configs (slot_interface interfaces slot).device (slot_name interfaces configs slot) k (sym (key_read interfaces configs slot within) ∙ e)
+      | inr past ↦ absurd (some_is_none k (sym (no_key_past interfaces configs slot past) ∙ e))
+    ]
+
+pub keys_there : (configs : List Config) (keys : List (Option (ℕ × List ℕ))) → AreThere configs keys → AllByRecursion (λ key. IsSome (list_there configs key)) (names_of_keys keys)
+keys_there configs keys there = names_hold (λ key. IsSome (list_there configs key)) keys there
 
 module _ {E : Type 0} (interfaces : List Interface) (configs : List Config) where
   pub lets_by_result : (result : Result AppliedLists E) → IfOk result (λ a. a ≡ applied_of interfaces configs) → IfOk result (λ a. (slot : ℕ) → slot < 2 * length interfaces → (h : Header) → applied_lets a slot h ≡ slot_lets interfaces configs slot h)

@@ -1,5 +1,5 @@
 -- Which access lists configurations apply at the slots of a network, and what crosses there.
-use Rattle.std.specs.Prelude.{ℕ, ◌*◌, ◌/◌, ◌%◌, ◌==◌, Bool, true, List, [], ◌∷◌, ◌++◌, length, map, fold, Option, Some, None, option_map, option_and_then, unwrap_or, slice_index_or, if◌then◌else◌, position}
+use Rattle.std.specs.Prelude.{◌≡◌, ℕ, ◌*◌, ◌/◌, ◌%◌, ◌==◌, Bool, true, List, [], ◌∷◌, ◌++◌, length, map, fold, Option, Some, None, option_map, option_and_then, unwrap_or, slice_index_or, if◌then◌else◌, position, get_or, IsSome}
 use Rattle.std.specs.List.{list_any, range_with_len}
 use Rattle.std.specs.Map.{lookup}
 use Rattle.std.specs.Option.{option_map_or}
@@ -95,9 +95,17 @@ names_of_keys keys = fold with_slot_key [] keys
 abbrev pub place_in : List (ℕ × List ℕ) → Option (ℕ × List ℕ) → Option ℕ
 place_in names key = option_and_then (λ k. position (same_place k) names) key
 
+-- the list of a device and a name, if it is there
+abbrev pub list_there : List Config → ℕ × List ℕ → Option (List Entry)
+list_there configs key = lookup (bytes_eq key.1) (config_at configs key.0).lists
+
+-- the list of each slot's key is there
+abbrev pub AreThere : List Config → List (Option (ℕ × List ℕ)) → Type 0
+AreThere configs keys = (slot : ℕ) (key : ℕ × List ℕ) → get_or keys slot None ≡ Some key → IsSome (list_there configs key)
+
 -- the list of a device and a name
 abbrev pub key_list : List Config → ℕ × List ℕ → List Entry
-key_list configs key = unwrap_or (lookup (bytes_eq key.1) (config_at configs key.0).lists) []
+key_list configs key = unwrap_or (list_there configs key) []
 
 -- the lists of configurations that slots of these keys apply, and where
 abbrev pub applied_by_keys : List Config → List (Option (ℕ × List ℕ)) → AppliedLists

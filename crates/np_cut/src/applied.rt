@@ -13,9 +13,10 @@ use std::marker::Model;
 ///
 /// It is known that each place in `at` has a list, and that `names` has as many items as `lists`.
 #[derive(Drop)]
-pub struct Applied {
-    /// The lists that are applied at some slot, in the order of the first slot of each.
-    pub lists: Items<List>,
+pub struct Applied<'a> {
+    /// The lists that are applied at some slot, in the order of the first slot of each, where they stand in
+    /// the configurations.
+    pub lists: Vec<&'a List>,
     /// The device and the name of each list.
     pub names: Items<(DevId, Name)>,
     /// For each slot the place of the list that is applied there. Slot `2 * i` is interface `i`
@@ -23,19 +24,20 @@ pub struct Applied {
     pub at: Items<Option<usize>>,
 }
 
-impl Model for Applied {
+impl<'a> Model for Applied<'a> {
+    ghost use Rattle.std.specs.Prelude.{map};
     ghost use Rattle.np_cut.specs.AppliedLists.{AppliedLists, IsApplied};
 
     ghost Value = { AppliedLists };
 
     ghost view = { λ applied. record {
-      lists = applied.lists;
+      lists = map (λ list. list.now) applied.lists.items;
       names = applied.names;
       at = applied.at;
     } };
 
     ghost invariant = { λ applied. IsApplied record {
-      lists = applied.lists;
+      lists = map (λ list. list.now) applied.lists.items;
       names = applied.names;
       at = applied.at;
     } };
@@ -45,7 +47,7 @@ ghost use Rattle.np_cut.specs.AppliedLists.{applied_lets};
 
 /// Whether a slot lets a header cross: what the list that is applied there permits, and everything
 /// where there is none.
-pub fn lets(applied: &Applied, slot: usize, h: &Header) -> bool
+pub fn lets(applied: &Applied<'_>, slot: usize, h: &Header) -> bool
     requires { slot < length applied.now.at }
     ensures { result ≡ applied_lets applied.now slot h.now }
 {

@@ -3,14 +3,14 @@
 ghost use Rattle.std.specs.Prelude.{◌≡◌, ◌<◌, ◌*◌, ℕ, length, map, IfOk};
 ghost use Rattle.std.specs.List.{AllByRecursion};
 ghost use Rattle.np_net.specs.Distinct.{AreDistinct, same_place};
-ghost use Rattle.np_cut.specs.Applying.{place_in, applied_by_keys, applied_of, slot_lets};
+ghost use Rattle.np_cut.specs.Applying.{AreThere, place_in, applied_by_keys, applied_of, slot_lets};
 ghost use Rattle.np_cut.specs.AppliedLists.{applied_lets};
 ghost use Rattle.np_space.specs.declared.headers.Header.{Header};
 
 use crate::applied::Applied;
 use crate::key_set::{KeySet, copy_key, set_of_keys};
-use crate::keys::{keys_of_slots, take_lists};
-use np_acl_read::Config;
+use crate::keys::{keys_of_slots, lists_of_keys};
+use np_acl_read::SharedConfig;
 use np_net::{DevId, Network};
 use np_text::Name;
 use sqlite_items::Items;
@@ -42,36 +42,36 @@ fn places_of_keys(
 }
 
 // What configurations apply, by the keys of the slots.
-fn applied_with(
+fn applied_with<'a>(
     alloc: Global,
-    configs: &mut [Config],
+    configs: &'a [SharedConfig],
     keys: &[Option<(DevId, Name)>],
-) -> Result<Applied, AllocError>
-    ensures { IfOk result (λ applied. applied ≡ applied_by_keys configs.old keys.now) }
+) -> Result<Applied<'a>, AllocError>
+    requires { AreThere configs.now keys.now }
+    ensures { IfOk result (λ applied. applied ≡ applied_by_keys configs.now keys.now) }
 {
     let set = set_of_keys(alloc, keys)?;
-    let lists = take_lists(alloc, configs, set.as_slice())?;
+    let lists = lists_of_keys(alloc, configs, set.as_slice())?;
     let names = copy_keys(alloc, set.as_slice())?;
     let at = places_of_keys(alloc, &set, keys)?;
     Ok(Applied { lists, names, at })
 }
 
 /// The lists that configurations apply at the slots of a network, as its filtering posture (Guttman and
-/// Herzog 2005): one configuration for each device, in the order of the devices. Fails only for want of memory. Time and memory are linear in the
-/// configurations and the slots; no list is copied.
-pub fn apply(alloc: Global, net: &Network, configs: Vec<Config>) -> Result<Applied, AllocError>
-    ensures made { IfOk result (λ applied. applied ≡ applied_of net.now.interfaces configs.items) }
-    ensures lets { IfOk result (λ applied. (slot : ℕ) → slot < 2 * length net.now.interfaces → (h : Header) → applied_lets applied slot h ≡ slot_lets net.now.interfaces configs.items slot h) }
+/// Herzog 2005): one configuration for each device, in the order of the devices. Fails only for want of memory.
+/// Time and memory are linear in the slots and their names; no list is copied, so it doesn't matter how large
+/// the configurations are.
+pub fn apply<'a>(
+    alloc: Global,
+    net: &Network,
+    configs: &'a [SharedConfig],
+) -> Result<Applied<'a>, AllocError>
+    ensures made { IfOk result (λ applied. applied ≡ applied_of net.now.interfaces configs.now) }
+    ensures lets { IfOk result (λ applied. (slot : ℕ) → slot < 2 * length net.now.interfaces → (h : Header) → applied_lets applied slot h ≡ slot_lets net.now.interfaces configs.now slot h) }
     ensures slots { IfOk result (λ applied. length applied.at ≡ 2 * length net.now.interfaces) }
     ensures devices { IfOk result (λ applied. AllByRecursion (λ name. name.0 < length net.now.devices) applied.names) }
     ensures once { IfOk result (λ applied. AreDistinct same_place applied.names) }
 {
-    let mut configs = configs;
-    let keys = keys_of_slots(
-        alloc,
-        net.interfaces.as_slice(),
-        configs.as_slice(),
-        net.free.len(),
-    )?;
-    applied_with(alloc, configs.as_mut_slice(), keys.as_slice())
+    let keys = keys_of_slots(alloc, net.interfaces.as_slice(), configs, net.free.len())?;
+    applied_with(alloc, configs, keys.as_slice())
 }

@@ -15,8 +15,8 @@ use np_region::Regions;
 use std::alloc::{AllocError, Global};
 
 // The place of a list that is the same as this one: the first, where there is one.
-fn place_of(lists: &[List], list: &List) -> Option<usize>
-    ensures { IfSome result (λ n. slice_get lists.now n ≡ Some list.now) }
+fn place_of(lists: &[&List], list: &List) -> Option<usize>
+    ensures { IfSome result (λ n. slice_get (map (λ list. list.now) lists.now) n ≡ Some list.now) }
 {
     for (n, other) in lists.iter().enumerate() {
         if other.same_as(list) {
@@ -31,12 +31,12 @@ fn place_of(lists: &[List], list: &List) -> Option<usize>
 fn next_list<S: Regions>(
     alloc: Global,
     store: &mut S,
-    before: &[List],
+    before: &[&List],
     cuts: &[S::R],
     list: &List,
 ) -> Result<S::R, AllocError>
     requires fit { EachFits S.fits store.old cuts.now }
-    requires exact { tests_of S.has_header store.old cuts.now ≡ list_tests before.now }
+    requires exact { tests_of S.has_header store.old cuts.now ≡ list_tests (map (λ list. list.now) before.now) }
     ensures kept { KeepsRegions S.fits S.has_header store.old store.new }
     ensures fits { IfOk result (λ x. S.fits store.new x) }
     ensures exact { IfOk result (λ x. (h : Header) → S.has_header store.new x h ≡ list_test list.now h) }
@@ -51,15 +51,15 @@ fn next_list<S: Regions>(
 fn list_cuts<S: Regions>(
     alloc: Global,
     store: &mut S,
-    lists: &[List],
+    lists: &[&List],
 ) -> Result<Vec<S::R>, AllocError>
     ensures kept { KeepsRegions S.fits S.has_header store.old store.new }
     ensures fits { IfOk result (λ cuts. EachFits S.fits store.new cuts.items) }
-    ensures exact { IfOk result (λ cuts. tests_of S.has_header store.new cuts.items ≡ list_tests lists.now) }
+    ensures exact { IfOk result (λ cuts. tests_of S.has_header store.new cuts.items ≡ list_tests (map (λ list. list.now) lists.now)) }
 {
     let mut cuts = Vec::new(alloc);
     for n in 0..lists.len() {
-        let cut = next_list(alloc, store, &lists[..n], cuts.as_slice(), &lists[n])?;
+        let cut = next_list(alloc, store, &lists[..n], cuts.as_slice(), lists[n])?;
         cuts.push(cut)?;
     }
     Ok(cuts)
@@ -107,7 +107,7 @@ pub fn filter_cuts<S: Regions>(
     alloc: Global,
     store: &mut S,
     net: &Network,
-    applied: &Applied,
+    applied: &Applied<'_>,
 ) -> Result<Vec<S::R>, AllocError>
     ensures kept { KeepsRegions S.fits S.has_header store.old store.new }
     ensures fits { IfOk result (λ cuts. EachFits S.fits store.new cuts.items) }

@@ -1,18 +1,14 @@
-//! The lists of configurations by their devices and names: which of them slots apply, and taking them
-//! out.
+//! The lists of configurations by their devices and names, and which of them slots apply.
 
-ghost use Rattle.std.specs.Prelude.{◌≡◌, ◌<◌, ◌/◌, ◌*◌, ℕ, List as ListOf, [], false, length, map, unwrap_or, IfOk, is_some};
-ghost use Rattle.std.specs.Map.{lookup};
-ghost use Rattle.std.specs.Str.{bytes_eq};
-ghost use Rattle.np_net.specs.Distinct.{AreDistinct, same_place};
-ghost use Rattle.std.specs.List.{range_with_len};
+ghost use Rattle.std.specs.Prelude.{◌≡◌, ◌<◌, ◌/◌, ◌*◌, length, map, IfOk, IsSome, is_some};
+ghost use Rattle.std.specs.List.{AllByRecursion, range_with_len};
+ghost use Rattle.std.specs.Option.{option_copied};
 ghost use Rattle.np_cut.specs.Applying as applying;
 
 use np_acl::{List, Way};
-use np_acl_read::{Config, Lists};
+use np_acl_read::{Config, Lists, SharedConfig};
 use np_net::{DevId, Interface};
 use np_text::Name;
-use sqlite_items::Items;
 use std::alloc::{AllocError, Global};
 
 // Whether a list is defined and has entries.
@@ -73,7 +69,7 @@ fn slot_way(slot: usize) -> Way
 fn key_of_slot(
     alloc: Global,
     interfaces: &[Interface],
-    configs: &[Config],
+    configs: &[SharedConfig],
     slot: usize,
 ) -> Result<Option<(DevId, Name)>, AllocError>
     requires { slot / 2 < length interfaces.now }
@@ -82,7 +78,7 @@ fn key_of_slot(
     let interface = &interfaces[slot / 2];
     let way = slot_way(slot);
     match configs.get(usize::from(interface.device)) {
-        Some(config) => key_in(alloc, config, interface.device, &interface.name, way),
+        Some(config) => key_in(alloc, config.get(), interface.device, &interface.name, way),
         None => Ok(None),
     }
 }
@@ -91,7 +87,7 @@ fn key_of_slot(
 pub(crate) fn keys_of_slots(
     alloc: Global,
     interfaces: &[Interface],
-    configs: &[Config],
+    configs: &[SharedConfig],
     slots: usize,
 ) -> Result<Vec<Option<(DevId, Name)>>, AllocError>
     requires { slots ≡ 2 * length interfaces.now }
@@ -104,42 +100,39 @@ pub(crate) fn keys_of_slots(
     Ok(keys)
 }
 
-// Takes the list of this name out; one without entries where it isn't defined.
-fn take_named(alloc: Global, lists: &mut Lists, name: &Name) -> List
-    ensures list { result ≡ unwrap_or (lookup (bytes_eq name.now) lists.old) [] }
-    ensures others { (other : ListOf ℕ) → bytes_eq name.now other ≡ false → lookup (bytes_eq other) lists.new ≡ lookup (bytes_eq other) lists.old }
+// The list of a device and a name in the device's configuration, if there is one.
+fn list_there<'a>(configs: &'a [SharedConfig], key: &(DevId, Name)) -> Option<&'a List>
+    ensures { option_copied result ≡ applying.list_there configs.now key.now }
 {
-    match lists.take(name) {
+    match configs.get(usize::from(key.0)) {
+        Some(config) => config.get().lists.named(&key.1),
+        None => None,
+    }
+}
+
+// That list, where it is known to be there.
+fn list_of_key<'a>(configs: &'a [SharedConfig], key: &(DevId, Name)) -> &'a List
+    requires { IsSome (applying.list_there configs.now key.now) }
+    ensures { result.now ≡ applying.key_list configs.now key.now }
+{
+    match list_there(configs, key) {
         Some(list) => list,
-        None => List::new(alloc),
+        None => unreachable!(),
     }
 }
 
-// Takes the list of a device and a name out of the device's configuration.
-fn take_list(alloc: Global, configs: &mut [Config], key: &(DevId, Name)) -> List
-    ensures list { result ≡ applying.key_list configs.old key.now }
-    ensures others { (other : ℕ × ListOf ℕ) → same_place other key.now ≡ false → applying.key_list configs.new other ≡ applying.key_list configs.old other }
-{
-    let device = usize::from(key.0);
-    if device < configs.len() {
-        take_named(alloc, &mut configs[device].lists, &key.1)
-    } else {
-        List::new(alloc)
-    }
-}
-
-/// Takes the lists of keys out of the configurations.
-pub(crate) fn take_lists(
+/// The lists of keys in their configurations.
+pub(crate) fn lists_of_keys<'a>(
     alloc: Global,
-    configs: &mut [Config],
+    configs: &'a [SharedConfig],
     keys: &[(DevId, Name)],
-) -> Result<Items<List>, AllocError>
-    requires { AreDistinct same_place keys.now }
-    ensures { IfOk result (λ lists. lists ≡ map (applying.key_list configs.old) keys.now) }
+) -> Result<Vec<&'a List>, AllocError>
+    requires { AllByRecursion (λ key. IsSome (applying.list_there configs.now key)) keys.now }
+    ensures { IfOk result (λ lists. map (λ list. list.now) lists.items ≡ map (applying.key_list configs.now) keys.now) }
 {
-    let mut lists = Items::new(alloc);
-    for key in keys {
-        lists.push(take_list(alloc, configs, key))?;
+    let mut lists = Vec::new(alloc);
+    for n in 0..keys.len() {
+        lists.push(list_of_key(configs, &keys[n]))?;
     }
     Ok(lists)
 }

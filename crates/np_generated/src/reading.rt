@@ -6,7 +6,7 @@ ghost use Rattle.np_acl_read.specs.Reading.{config_of};
 ghost use Rattle.np_generate.specs.Generated.{generated_configs, generated_net};
 ghost use Rattle.np_net_read.specs.Reading.{net_of};
 
-use np_acl_read::{Config, ConfigError, read_config};
+use np_acl_read::{ConfigError, SharedConfig, read_config};
 use np_generate::generate;
 use np_net::Network;
 use np_net_read::{NetError, read_net};
@@ -19,7 +19,7 @@ pub struct GeneratedInputs {
     /// The network.
     pub net: Network,
     /// The configuration of each device, in the order of the devices.
-    pub configs: Vec<Config>,
+    pub configs: Vec<SharedConfig>,
 }
 
 // The network that a text declares, where its lines have no fault.
@@ -35,19 +35,19 @@ fn net(alloc: Global, text: &[u8]) -> Result<Network, AllocError>
 }
 
 // The configuration that a text declares, where its lines have no fault.
-fn config(alloc: Global, text: &[u8]) -> Result<Config, AllocError>
+fn config(alloc: Global, text: &[u8]) -> Result<SharedConfig, AllocError>
     requires { IsOk (config_of text.now) }
     ensures { IfOk result (λ config. config_of text.now ≡ Ok config) }
 {
     match read_config(alloc, text) {
-        Ok(config) => Ok(config),
+        Ok(config) => SharedConfig::of(alloc, config),
         Err(ConfigError::Memory(error)) => Err(error),
         Err(ConfigError::Fault(_)) => unreachable!(),
     }
 }
 
 // The configurations that texts declare, in their order.
-fn configs(alloc: Global, texts: &[Items<u8>]) -> Result<Vec<Config>, AllocError>
+fn configs(alloc: Global, texts: &[Items<u8>]) -> Result<Vec<SharedConfig>, AllocError>
     requires { All (λ text. IsOk (config_of text)) texts.now }
     ensures { IfOk result (λ configs. map config_of texts.now ≡ map (λ config. Ok config) configs.items) }
 {

@@ -107,7 +107,7 @@ fn all_forbidden(
 pub fn case_of(
     alloc: Global,
     net: &Network,
-    applied: &Applied,
+    applied: &Applied<'_>,
     atoms: Atoms,
 ) -> Result<Case, AllocError>
     requires slots { length applied.now.at ≡ 2 * length net.now.interfaces }

@@ -1,7 +1,10 @@
 //! Configurations and the faults of their lines.
 
 use np_acl::Way;
-use np_acl_read::{Config, ConfigError, ConfigFault, ConfigWhy, empty_config, read_config};
+use np_acl_read::{
+    Config, ConfigError, ConfigFault, ConfigWhy, Declared, SharedConfig, empty_config,
+    line_statement, read_config,
+};
 use np_space::{Header, Span};
 use np_text::Name;
 use std::alloc::{AllocError, Global};
@@ -465,19 +468,6 @@ fn lists_in_order(rt: HostRuntime) -> Result<(), Fail> {
 }
 
 #[test]
-fn a_list_is_taken_out(rt: HostRuntime) -> Result<(), Fail> {
-    let mut config = read_after(rt.alloc(), THREE_LISTS)?;
-    let name = Name::of(rt.alloc(), b"7")?;
-    match config.lists.take(&name) {
-        Some(list) => assert_eq!(rt; list.into_vec().len(), 1),
-        None => panic!(rt; "no list 7"),
-    }
-    expect_names(&rt, &config, &["L", "A"]);
-    assert_eq!(rt; config.lists.take(&name).is_none(), true);
-    Ok(())
-}
-
-#[test]
 fn nothing_is_in_an_empty_configuration(rt: HostRuntime) {
     let empty = empty_config(rt.alloc());
     assert_eq!(rt; empty.lists.count(), 0);
@@ -503,15 +493,36 @@ fn as_many_entries_as_there_may_be(rt: HostRuntime) -> Result<(), Fail> {
     Ok(())
 }
 
-/// Whether the list at this place has the same name and entries in both configurations.
-fn same_list_at(one: &Config, other: &Config, place: usize) -> bool {
-    match (one.lists.at(place), other.lists.at(place)) {
-        (Some((name, list)), Some((other_name, other_list))) => {
-            name == other_name && list.same_as(other_list)
-        }
-        (None, None) => true,
-        _ => false,
+/// Adds what a line declares.
+fn declare_line(alloc: Global, declared: &mut Declared, line: &str) -> Result<(), AllocError> {
+    if let Ok(Some(statement)) = line_statement(alloc, declared, line.as_bytes()) {
+        declared.extend(alloc, statement)?;
     }
+    Ok(())
+}
+
+/// What lines declare, one after another.
+fn declared_lines(alloc: Global) -> Result<Declared, AllocError> {
+    let mut declared = Declared::new(alloc);
+    for line in [
+        "access-list 7 permit any",
+        "ip access-list extended L",
+        " permit ip any any",
+        " deny udp any any",
+    ] {
+        declare_line(alloc, &mut declared, line)?;
+    }
+    Ok(declared)
+}
+
+#[test]
+fn entries_line_by_line(rt: HostRuntime) -> Result<(), Fail> {
+    let declared = declared_lines(rt.alloc())?;
+    for (name, count) in [("7", Some(1)), ("L", Some(2)), ("M", None)] {
+        let name = Name::of(rt.alloc(), name.as_bytes())?;
+        assert_eq!(rt; declared.entry_count(&name), count);
+    }
+    Ok(())
 }
 
 /// Text with three lists and groups, some of them with entries.
@@ -522,40 +533,42 @@ fn lists_and_groups(alloc: Global) -> Result<Config, ConfigError> {
     read_config(alloc, text.as_bytes())
 }
 
+/// Two shares of one configuration.
+fn shares(alloc: Global) -> Result<(SharedConfig, SharedConfig), Fail> {
+    let one = SharedConfig::of(alloc, lists_and_groups(alloc)?)?;
+    let other = one.share()?;
+    Ok((one, other))
+}
+
 #[test]
-fn a_copy_has_the_same_lists(rt: HostRuntime) -> Result<(), Fail> {
-    let config = lists_and_groups(rt.alloc())?;
-    let copy = config.copy(rt.alloc())?;
-    expect_names(&rt, &copy, &["100", "L", "7", "A"]);
-    for place in 0..5 {
-        assert_eq!(rt; same_list_at(&config, &copy, place), true, "{place}");
-    }
+fn a_share_has_the_same_lists(rt: HostRuntime) -> Result<(), Fail> {
+    let (one, other) = shares(rt.alloc())?;
+    drop(one);
+    expect_names(&rt, other.get(), &["100", "L", "7", "A"]);
     let udp = Header {
         b: 53,
         ..header(0, 17)
     };
-    assert_eq!(rt; permits(rt.alloc(), &copy, "100", &udp)?, false);
-    assert_eq!(rt; permits(rt.alloc(), &copy, "7", &udp)?, true);
+    assert_eq!(rt; permits(rt.alloc(), other.get(), "100", &udp)?, false);
+    assert_eq!(rt; permits(rt.alloc(), other.get(), "7", &udp)?, true);
     Ok(())
 }
 
 #[test]
-fn a_copy_has_the_same_groups(rt: HostRuntime) -> Result<(), Fail> {
-    let copy = lists_and_groups(rt.alloc())?.copy(rt.alloc())?;
-    assert_eq!(rt; copy.groups.count(Way::Inward), 2);
-    assert_eq!(rt; copy.groups.count(Way::Outward), 1);
+fn a_share_has_the_same_groups(rt: HostRuntime) -> Result<(), Fail> {
+    let (one, other) = shares(rt.alloc())?;
     for (interface, way, list) in APPLIED {
         let name = Name::of(rt.alloc(), interface.as_bytes())?;
-        assert_eq!(rt; is_applied(&copy, &name, way, list), true, "{interface}");
+        assert_eq!(rt;
+            is_applied(one.get(), &name, way, list),
+            true,
+            "{interface}"
+        );
+        assert_eq!(rt;
+            is_applied(other.get(), &name, way, list),
+            true,
+            "{interface}"
+        );
     }
-    Ok(())
-}
-
-#[test]
-fn a_copy_of_an_empty_configuration(rt: HostRuntime) -> Result<(), Fail> {
-    let copy = empty_config(rt.alloc()).copy(rt.alloc())?;
-    assert_eq!(rt; copy.lists.count(), 0);
-    assert_eq!(rt; copy.groups.count(Way::Inward), 0);
-    assert_eq!(rt; copy.groups.count(Way::Outward), 0);
     Ok(())
 }

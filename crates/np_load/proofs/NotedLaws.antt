@@ -1,6 +1,6 @@
 -- The notes of one device after another.
 use Rattle.std.proofs.Common.{◌≡◌, ℕ, ◌+◌, false, List, [], ◌∷◌, ◌++◌, arith, map, length, Option, Some, None, Result, Ok, Err, refl, sym, ap, ◌∙◌}
-use Rattle.std.specs.Prelude.{◌≤◌, ◌&&◌, nat_lt, IfOk, IsOk, IsSome}
+use Rattle.std.specs.Prelude.{◌≤◌, ◌&&◌, nat_lt, IsOk, IsSome}
 use Rattle.std.specs.FinMap.{get}
 use Rattle.std.specs.Option.{option_map_or}
 use Rattle.std.proofs.lemmas.Bool.Decides.{nat_tests}
@@ -142,11 +142,6 @@ read_says files file bytes read there within accepted same passed = record {
 
     says : config_says files file ≡ Some (Ok config)
     says = rw (there, not_longer file_limit (length bytes) within, is) refl
-
--- what is read whatever was read last
-pub read_anyway : (told had : Files → Type 0) (file : List ℕ) (result : Result ReadFile Halt) → IfOk result (λ read. (read.file ≡ file) × ((files : Files) → told files → IsReadOf files read)) → IfOk result (λ read. (read.file ≡ file) × ((files : Files) → told files → had files → IsReadOf files read))
-read_anyway told had file (Ok read) is = (is.0, λ files tells was. is.1 files tells)
-read_anyway told had file (Err halt) is = tt
 
 -- the notes on a file that was read
 pub noted_says : (files : Files) (net : Plan) (n : ℕ) (file : List ℕ) (read : ReadFile) (noted : Noted) → IsReadOf files read → read.file ≡ file →

@@ -1,4 +1,4 @@
--- Configurations that are copied where a device before has the same file.
+-- Configurations that are shared where a device before has the same file.
 use Rattle.std.proofs.Common.{◌≡◌, ℕ, ◌+◌, Bool, true, false, cond, List, [], ◌∷◌, ◌++◌, Option, Some, None, Ok, slice_get, get_or, ◌<◌, length, refl, sym, ◌∙◌, ap}
 use Rattle.std.specs.Prelude.{◌||◌, is_some, option_map}
 use Rattle.std.specs.List.{list_any, position, position_from}

@@ -14,7 +14,7 @@ ghost use Rattle.np_load.specs.Loading.{Loads, HaltsBy};
 ghost use Rattle.np_load.specs.Saying.{net_says, config_says, script_says};
 
 use crate::halt::Halt;
-use np_acl_read::{Config, ConfigError, read_config};
+use np_acl_read::{ConfigError, SharedConfig, read_config};
 use np_net::Network;
 use np_net_read::{NetError, read_net};
 use np_outside::{ReadError, Shelf, read_file};
@@ -117,7 +117,7 @@ pub(crate) fn load_config_file<S: Shelf>(
     alloc: Global,
     shelf: &mut S,
     file: &[u8],
-) -> Result<Config, Halt>
+) -> Result<SharedConfig, Halt>
     ensures says { (files : Files) → S.files shelf.old ≡ Some files → Loads result (config_says files file.now) }
 
     ensures failed { IsErrOf result Halt.ReadFault → Rose (S.faults shelf.old) (S.faults shelf.new) }
@@ -127,7 +127,7 @@ pub(crate) fn load_config_file<S: Shelf>(
 {
     let bytes = load_bytes(alloc, shelf, file)?;
     match read_config(alloc, bytes.as_slice()) {
-        Ok(config) => Ok(config),
+        Ok(config) => Ok(SharedConfig::of(alloc, config)?),
         Err(error) => Err(config_halt(alloc, file, error)?),
     }
 }

@@ -12,24 +12,25 @@ ghost use Rattle.np_load.specs.Saying.{config_says};
 
 use crate::files::{load_config_file, load_net};
 use crate::halt::Halt;
-use np_acl_read::{Config, empty_config};
+use np_acl_read::{SharedConfig, empty_config};
 use np_net::{Device, Network};
 use np_outside::Shelf;
 use np_text::Name;
 use std::alloc::{AllocError, Global};
 
-/// What all files of a run declare: a network, and the configurations of its devices in their order.
+/// What all files of a run declare: a network, and the configurations of its devices in their order. Devices that
+/// name the same file have shares of one configuration.
 #[derive(Drop)]
 pub struct Inputs {
     pub net: Network,
-    pub configs: Vec<Config>,
+    pub configs: Vec<SharedConfig>,
 }
 
 /// The configuration of a device without a file.
-fn no_config(alloc: Global) -> Config
-    ensures { result ≡ empty }
+fn no_config(alloc: Global) -> Result<SharedConfig, AllocError>
+    ensures { IfOk result (λ config. config ≡ empty) }
 {
-    empty_config(alloc)
+    SharedConfig::of(alloc, empty_config(alloc))
 }
 
 /// Whether the device's configuration is in this file.
@@ -51,33 +52,32 @@ fn first_with(devices: &[Device], file: &Name) -> Option<usize>
     devices.iter().position(|device| names_file(device, file))
 }
 
-/// A copy of the configuration of the first of these devices whose configuration is in this file.
+/// A share of the configuration of the first of these devices whose configuration is in this file.
 /// `None` where there is none.
-fn copy_of(
-    alloc: Global,
+fn share_of(
     devices: &[Device],
-    configs: &[Config],
+    configs: &[SharedConfig],
     file: &Name,
-) -> Result<Option<Config>, AllocError>
+) -> Result<Option<SharedConfig>, AllocError>
     requires { length configs.now ≡ length devices.now }
-    ensures found { IfOk result (λ copy. is_some copy ≡ list_any (names_file file.now) devices.now) }
-    ensures says { IfOk result (λ copy. IfSome copy (λ config. (files : Files) → AreLoaded files devices.now configs.now → config_says files file.now ≡ Some (Ok config))) }
+    ensures found { IfOk result (λ share. is_some share ≡ list_any (names_file file.now) devices.now) }
+    ensures says { IfOk result (λ share. IfSome share (λ config. (files : Files) → AreLoaded files devices.now configs.now → config_says files file.now ≡ Some (Ok config))) }
 {
     match first_with(devices, file) {
-        Some(place) => Ok(Some(configs[place].copy(alloc)?)),
+        Some(place) => Ok(Some(configs[place].share()?)),
         None => Ok(None),
     }
 }
 
 /// The configuration in a file. Where one of the devices before has its configuration in the same
-/// file, this is a copy, and the file isn't read again.
+/// file, this is a share of it, and the file isn't read again.
 fn load_file_once<S: Shelf>(
     alloc: Global,
     shelf: &mut S,
     before: &[Device],
-    configs: &[Config],
+    configs: &[SharedConfig],
     file: &Name,
-) -> Result<Config, Halt>
+) -> Result<SharedConfig, Halt>
     requires as_many { length configs.now ≡ length before.now }
     requires loaded { (files : Files) → S.files shelf.old ≡ Some files → AreLoaded files before.now configs.now }
     ensures says { (files : Files) → S.files shelf.old ≡ Some files → Loads result (config_says files file.now) }
@@ -88,7 +88,7 @@ fn load_file_once<S: Shelf>(
         IsSome (config_says files file.now) → Rose (S.breaks shelf.old) (S.breaks shelf.new) }
     ensures kept { KeepsShelf S.files S.cap S.faults S.breaks shelf.old shelf.new }
 {
-    match copy_of(alloc, before, configs, file)? {
+    match share_of(before, configs, file)? {
         Some(config) => Ok(config),
         None => load_config_file(alloc, shelf, file.bytes()),
     }
@@ -99,9 +99,9 @@ fn load_config<S: Shelf>(
     alloc: Global,
     shelf: &mut S,
     before: &[Device],
-    configs: &[Config],
+    configs: &[SharedConfig],
     device: &Device,
-) -> Result<Config, Halt>
+) -> Result<SharedConfig, Halt>
     requires as_many { length configs.now ≡ length before.now }
     requires loaded { (files : Files) → S.files shelf.old ≡ Some files → AreLoaded files before.now configs.now }
     ensures says { (files : Files) → S.files shelf.old ≡ Some files → Loads result (device_says files device.now) }
@@ -113,7 +113,7 @@ fn load_config<S: Shelf>(
 {
     match &device.config {
         Some(file) => load_file_once(alloc, shelf, before, configs, file),
-        None => Ok(no_config(alloc)),
+        None => Ok(no_config(alloc)?),
     }
 }
 
@@ -122,7 +122,7 @@ fn load_configs<S: Shelf>(
     alloc: Global,
     shelf: &mut S,
     devices: &[Device],
-) -> Result<Vec<Config>, Halt>
+) -> Result<Vec<SharedConfig>, Halt>
     ensures says { (files : Files) → S.files shelf.old ≡ Some files → LoadsAs (λ configs. configs.items) result (configs_say files devices.now) }
 
     ensures failed { IsErrOf result Halt.ReadFault → Rose (S.faults shelf.old) (S.faults shelf.new) }

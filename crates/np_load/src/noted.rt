@@ -1,6 +1,7 @@
 //! Reading a run's files, for what the readings of its configurations passed over.
 
 ghost use Rattle.std.specs.Prelude.{◌≡◌, ◌≤◌, ℕ, List, Some, Ok, IfErr, IfOk, IfSome, IsErrOf, IsSome, OnOk, length};
+ghost use Rattle.std.specs.List.{All};
 ghost use Rattle.np_outside.specs.Counts.{Rose};
 ghost use Rattle.np_outside.specs.Files.{Files};
 ghost use Rattle.np_net.specs.Limits.{declaration_limit};
@@ -90,7 +91,7 @@ fn notes_on(
     Ok(noted)
 }
 
-/// A configuration's file that was read, by its name, and what its reading passed over.
+/// A configuration's file that was read: its name, and what its reading passed over.
 #[derive(Drop)]
 pub(crate) struct ReadFile {
     file: Name,
@@ -117,52 +118,66 @@ fn load_read<S: Shelf>(alloc: Global, shelf: &mut S, file: &[u8]) -> Result<Read
     }
 }
 
-/// The configuration in a file, as it was read last where that is the file that was read last.
-fn read_or_kept<S: Shelf>(
+/// The file of this name, where it is among those that were read.
+fn read_before<'a>(read: &'a [ReadFile], file: &[u8]) -> Option<&'a ReadFile>
+    ensures file { IfSome result (λ one. one.now.file ≡ file.now) }
+    ensures read { IfSome result (λ one. (files : Files) → All (IsReadOf files) read.now → IsReadOf files one.now) }
+{
+    for one in read {
+        if one.file.bytes() == file {
+            return Some(one);
+        }
+    }
+    None
+}
+
+/// The notes on the configuration that a file declares for a device, where the file wasn't read before.
+/// It is kept with those that were read.
+fn load_new_notes<S: Shelf>(
     alloc: Global,
     shelf: &mut S,
-    last: Option<ReadFile>,
+    net: &Network,
+    device: DevId,
     file: &[u8],
-) -> Result<ReadFile, Halt>
-    ensures read { IfOk result (λ read. read.file ≡ file.now × ((files : Files) → S.files shelf.old ≡ Some files → IfSome last (IsReadOf files) → IsReadOf files read)) }
-    ensures halts { IfErr result (λ halt. (files : Files) → S.files shelf.old ≡ Some files → Halts halt (config_says files file.now)) }
+    read: &mut Vec<ReadFile>,
+) -> Result<Noted, Halt>
+    ensures says { (files : Files) → S.files shelf.old ≡ Some files →
+        LoadsAs noted_in result (and_then (config_says files file.now) (λ config. Some (Ok (file_noted files net.now device file.now)))) }
+    ensures read { OnOk result ((files : Files) → S.files shelf.old ≡ Some files → All (IsReadOf files) read.old.items → All (IsReadOf files) read.new.items) }
 
     ensures failed { IsErrOf result halts.ReadFault → Rose (S.faults shelf.old) (S.faults shelf.new) }
     ensures broken { IsErrOf result halts.ReadFault → (files : Files) → S.files shelf.old ≡ Some files →
         IsSome (config_says files file.now) → Rose (S.breaks shelf.old) (S.breaks shelf.new) }
     ensures kept { KeepsShelf S.files S.cap S.faults S.breaks shelf.old shelf.new }
 {
-    if let Some(read) = last {
-        if read.file.bytes() == file {
-            return Ok(read);
-        }
-    }
-    load_read(alloc, shelf, file)
+    let one = load_read(alloc, shelf, file)?;
+    let noted = notes_on(alloc, net, device, file, &one.passed)?;
+    read.push(one)?;
+    Ok(noted)
 }
 
-/// The notes on the configuration that a file declares for a device. It isn't read again where it was
-/// read last.
+/// The notes on the configuration that a file declares for a device. A file that was read before isn't read again.
 fn load_file_notes<S: Shelf>(
     alloc: Global,
     shelf: &mut S,
     net: &Network,
     device: DevId,
     file: &[u8],
-    last: &mut Option<ReadFile>,
+    read: &mut Vec<ReadFile>,
 ) -> Result<Noted, Halt>
-    ensures says { (files : Files) → S.files shelf.old ≡ Some files → IfSome last.old (IsReadOf files) →
+    ensures says { (files : Files) → S.files shelf.old ≡ Some files → All (IsReadOf files) read.old.items →
         LoadsAs noted_in result (and_then (config_says files file.now) (λ config. Some (Ok (file_noted files net.now device file.now)))) }
-    ensures last { OnOk result ((files : Files) → S.files shelf.old ≡ Some files → IfSome last.old (IsReadOf files) → IfSome last.new (IsReadOf files)) }
+    ensures read { OnOk result ((files : Files) → S.files shelf.old ≡ Some files → All (IsReadOf files) read.old.items → All (IsReadOf files) read.new.items) }
 
     ensures failed { IsErrOf result halts.ReadFault → Rose (S.faults shelf.old) (S.faults shelf.new) }
     ensures broken { IsErrOf result halts.ReadFault → (files : Files) → S.files shelf.old ≡ Some files →
         IsSome (config_says files file.now) → Rose (S.breaks shelf.old) (S.breaks shelf.new) }
     ensures kept { KeepsShelf S.files S.cap S.faults S.breaks shelf.old shelf.new }
 {
-    let read = read_or_kept(alloc, shelf, last.take(), file)?;
-    let noted = notes_on(alloc, net, device, file, &read.passed)?;
-    *last = Some(read);
-    Ok(noted)
+    match read_before(read.as_slice(), file) {
+        Some(one) => Ok(notes_on(alloc, net, device, file, &one.passed)?),
+        None => load_new_notes(alloc, shelf, net, device, file, read),
+    }
 }
 
 /// The notes on a device's configuration; none without a file.
@@ -172,10 +187,10 @@ fn load_device_notes<S: Shelf>(
     net: &Network,
     n: DevId,
     device: &Device,
-    last: &mut Option<ReadFile>,
+    read: &mut Vec<ReadFile>,
 ) -> Result<Noted, Halt>
-    ensures says { (files : Files) → S.files shelf.old ≡ Some files → IfSome last.old (IsReadOf files) → LoadsAs noted_in result (device_notes_say files net.now n device.now) }
-    ensures last { OnOk result ((files : Files) → S.files shelf.old ≡ Some files → IfSome last.old (IsReadOf files) → IfSome last.new (IsReadOf files)) }
+    ensures says { (files : Files) → S.files shelf.old ≡ Some files → All (IsReadOf files) read.old.items → LoadsAs noted_in result (device_notes_say files net.now n device.now) }
+    ensures read { OnOk result ((files : Files) → S.files shelf.old ≡ Some files → All (IsReadOf files) read.old.items → All (IsReadOf files) read.new.items) }
 
     ensures failed { IsErrOf result halts.ReadFault → Rose (S.faults shelf.old) (S.faults shelf.new) }
     ensures broken { IsErrOf result halts.ReadFault → (files : Files) → S.files shelf.old ≡ Some files →
@@ -183,7 +198,7 @@ fn load_device_notes<S: Shelf>(
     ensures kept { KeepsShelf S.files S.cap S.faults S.breaks shelf.old shelf.new }
 {
     match &device.config {
-        Some(file) => load_file_notes(alloc, shelf, net, n, file.bytes(), last),
+        Some(file) => load_file_notes(alloc, shelf, net, n, file.bytes(), read),
         None => Ok(nothing(alloc)),
     }
 }
@@ -194,19 +209,19 @@ fn load_each_notes<S: Shelf>(
     shelf: &mut S,
     net: &Network,
     devices: &[Device],
-    last: &mut Option<ReadFile>,
+    read: &mut Vec<ReadFile>,
 ) -> Result<Noted, Halt>
     requires { length devices.now ≤ declaration_limit }
-    ensures says { (files : Files) → S.files shelf.old ≡ Some files → IfSome last.old (IsReadOf files) → LoadsAs noted_in result (notes_say files net.now 0 devices.now) }
+    ensures says { (files : Files) → S.files shelf.old ≡ Some files → All (IsReadOf files) read.old.items → LoadsAs noted_in result (notes_say files net.now 0 devices.now) }
 
     ensures failed { IsErrOf result halts.ReadFault → Rose (S.faults shelf.old) (S.faults shelf.new) }
-    ensures broken { IsErrOf result halts.ReadFault → (files : Files) → S.files shelf.old ≡ Some files → IfSome last.old (IsReadOf files) →
+    ensures broken { IsErrOf result halts.ReadFault → (files : Files) → S.files shelf.old ≡ Some files → All (IsReadOf files) read.old.items →
         IsSome (notes_say files net.now 0 devices.now) → Rose (S.breaks shelf.old) (S.breaks shelf.new) }
     ensures kept { KeepsShelf S.files S.cap S.faults S.breaks shelf.old shelf.new }
 {
     let mut noted = nothing(alloc);
     for n in 0..devices.len() {
-        let more = load_device_notes(alloc, shelf, net, n as DevId, &devices[n], last)?;
+        let more = load_device_notes(alloc, shelf, net, n as DevId, &devices[n], read)?;
         noted.add(more)?;
     }
     Ok(noted)
@@ -221,16 +236,15 @@ fn load_all_notes<S: Shelf>(alloc: Global, shelf: &mut S, net: &Network) -> Resu
         IsSome (notes_say files net.now 0 net.now.devices) → Rose (S.breaks shelf.old) (S.breaks shelf.new) }
     ensures kept { KeepsShelf S.files S.cap S.faults S.breaks shelf.old shelf.new }
 {
-    let mut last = None;
-    load_each_notes(alloc, shelf, net, net.devices.as_slice(), &mut last)
+    let mut read = Vec::new(alloc);
+    load_each_notes(alloc, shelf, net, net.devices.as_slice(), &mut read)
 }
 
 /// Reads the network's file, and then the configuration of each device in the order of the devices,
 /// for what the readings of the configurations passed over and may matter.
 ///
-/// It ends as `load_inputs` does, at the first file that is refused or can't be read. One
-/// configuration is kept at a time: a file that devices in a row name is read once, for the first of
-/// them.
+/// It ends as `load_inputs` does, at the first file that is refused or can't be read. A file that
+/// several devices name is read once, for the first of them.
 pub fn load_notes<S: Shelf>(alloc: Global, shelf: &mut S, file: &[u8]) -> Result<Noted, Halt>
     ensures says { (files : Files) → S.files shelf.old ≡ Some files → LoadsAs noted_in result (noted_of files file.now) }
 

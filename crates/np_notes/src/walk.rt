@@ -24,7 +24,6 @@ use np_acl_read::{ConfigError, ConfigFault, Declared, Section, Statement, line_s
 use np_lines::LineError;
 use np_text::{Name, lines};
 use std::alloc::{AllocError, Global};
-use std::mem::replace;
 
 /// What lines of a configuration have that notes speak of.
 #[derive(Drop)]
@@ -202,8 +201,7 @@ fn declare(
     ensures { OnOk result (declared.new ≡ added_if added declared.old said) }
 {
     if let Some(statement) = said {
-        let before = replace(declared, Declared::new(alloc));
-        *declared = before.with(alloc, statement)?;
+        declared.extend(alloc, statement)?;
     }
     Ok(())
 }

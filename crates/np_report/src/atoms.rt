@@ -183,7 +183,7 @@ fn put_all_atoms(text: &mut Vec<u8>, cuts: &[AtomSet], leasts: &[Header]) -> Res
 fn report(
     alloc: Global,
     net: &Network,
-    applied: &Applied,
+    applied: &Applied<'_>,
     atoms: &Atoms,
 ) -> Result<Vec<u8>, AllocError>
     requires { (k : ℕ) → k < length atoms.now.cuts → length (slice_index_or atoms.now.cuts k []) ≡ length atoms.now.leasts }
@@ -208,7 +208,7 @@ pub fn put_atoms(
     alloc: Global,
     out: &mut Vec<u8>,
     net: &Network,
-    applied: &Applied,
+    applied: &Applied<'_>,
     atoms: &Atoms,
 ) -> Result<(), AllocError>
     requires sets { (k : ℕ) → k < length atoms.now.cuts → length (slice_index_or atoms.now.cuts k []) ≡ length atoms.now.leasts }

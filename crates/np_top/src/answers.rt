@@ -40,7 +40,7 @@ use crate::report::{
     summary_report, unattainable_report, verdicts_report,
 };
 use crate::status::Status;
-use np_acl_read::Config;
+use np_acl_read::SharedConfig;
 use np_atomizer::Atomizer;
 use np_atoms::Atoms;
 use np_auth::{Answer as AuthAnswer, check_auth};
@@ -76,7 +76,7 @@ fn filter_atoms<G: Atomizer>(
     alloc: Global,
     store: &mut G,
     net: &Network,
-    applied: &Applied,
+    applied: &Applied<'_>,
 ) -> Result<Atoms, AllocError>
     ensures kept { KeepsRegions G.fits G.has_header store.old store.new }
     ensures atoms { IfOk result (λ atoms. AreAtoms (filter_tests applied.now.lists net.now.goals) atoms) }
@@ -91,12 +91,12 @@ fn case_by<G: Atomizer>(
     alloc: Global,
     store: &mut G,
     net: &Network,
-    configs: Vec<Config>,
+    configs: Vec<SharedConfig>,
 ) -> Result<Case, AllocError>
     ensures kept { KeepsRegions G.fits G.has_header store.old store.new }
     ensures case { IfOk result (λ case. IsCaseOf net.now.interfaces net.now.goals (applied_of net.now.interfaces configs.items) case) }
 {
-    let applied = apply(alloc, net, configs)?;
+    let applied = apply(alloc, net, configs.as_slice())?;
     let atoms = filter_atoms(alloc, store, net, &applied)?;
     case_of(alloc, net, &applied, atoms)
 }
@@ -127,7 +127,7 @@ fn summary<R: Threads + Sync, G: Atomizer, T: Gate + Sync>(
     store: &mut G,
     seed: u32,
     net: &Network,
-    configs: Vec<Config>,
+    configs: Vec<SharedConfig>,
     workers: usize,
     gate: &T,
 ) -> Result<Answer, AllocError>
@@ -165,7 +165,7 @@ fn atoms<G: Atomizer>(alloc: Global, store: &mut G, inputs: Inputs) -> Result<An
     ensures kept { KeepsRegions G.fits G.has_header store.old store.new }
 {
     let Inputs { net, configs } = inputs;
-    let applied = apply(alloc, &net, configs)?;
+    let applied = apply(alloc, &net, configs.as_slice())?;
     let atoms = filter_atoms(alloc, store, &net, &applied)?;
     Ok(atoms_report(alloc, &net, &applied, &atoms)?)
 }
@@ -175,7 +175,7 @@ fn synthesis<G: Atomizer>(
     alloc: Global,
     store: &mut G,
     net: &Network,
-    configs: Vec<Config>,
+    configs: Vec<SharedConfig>,
 ) -> Result<Answer, Halt>
     ensures report { IfOk result (λ answer. IsSynthesisReport net.now configs.items answer.text answer.status) }
     ensures memory { (halt : Ended) → IsErrOf result halt → halt ≡ halts.Memory }

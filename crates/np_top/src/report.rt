@@ -58,7 +58,7 @@ pub fn canonical(alloc: Global, net: &Network) -> Result<Answer, AllocError>
 pub fn atoms_report(
     alloc: Global,
     net: &Network,
-    applied: &Applied,
+    applied: &Applied<'_>,
     atoms: &Atoms,
 ) -> Result<Answer, AllocError>
     requires sets { (k : ℕ) → k < length atoms.now.cuts → length (slice_index_or atoms.now.cuts k []) ≡ length atoms.now.leasts }

@@ -1,6 +1,6 @@
 //! What the lines of a configuration declare.
 
-ghost use Rattle.std.specs.Prelude.{◌≡◌, ◌<◌, [], length, option_map, IfOk, OnOk};
+ghost use Rattle.std.specs.Prelude.{◌≡◌, ◌<◌, [], length, option_map, OnErr, OnOk};
 ghost use Rattle.std.specs.Map.{lookup};
 ghost use Rattle.std.specs.Str.{bytes_eq};
 ghost use Rattle.np_acl_read.specs.Adding.{Fits, added, entry_limit, with_numbered};
@@ -56,8 +56,9 @@ impl Declared {
         Ok(())
     }
 
-    /// Closes the section of a list.
-    fn close_list(&mut self)
+    /// Closes the section of a list, which is all that a line without a declaration does. It takes no
+    /// memory.
+    pub fn close_list(&mut self)
         ensures { self.new ≡ record self.old { section = closed_list self.old.section } }
     {
         if let Section::List { .. } = self.section {
@@ -73,13 +74,27 @@ impl Declared {
         Some(entries.count())
     }
 
-    /// What is declared with one more statement. An error comes only where memory runs out.
-    pub fn with(mut self, alloc: Global, statement: Statement) -> Result<Declared, AllocError>
-        requires { Fits self statement }
-        ensures { IfOk result (λ declared. declared ≡ added self statement) }
+    /// Forgets what is declared, as before any line is read.
+    fn clear(&mut self, alloc: Global)
+        ensures { self.new ≡ declared_by_config [] }
     {
-        self.add(alloc, statement)?;
-        Ok(self)
+        *self = Declared::new(alloc);
+    }
+
+    /// Adds what a statement declares. Where memory runs out nothing is declared any more, as before
+    /// any line is read.
+    pub fn extend(&mut self, alloc: Global, statement: Statement) -> Result<(), AllocError>
+        requires { Fits self.old statement }
+        ensures added { OnOk result (self.new ≡ added self.old statement) }
+        ensures cleared { OnErr result (self.new ≡ declared_by_config []) }
+    {
+        match self.add(alloc, statement) {
+            Ok(()) => Ok(()),
+            Err(error) => {
+                self.clear(alloc);
+                Err(error)
+            }
+        }
     }
 
     /// Adds what a statement declares.

@@ -24,7 +24,6 @@ use np_acl_read::{ConfigError, ConfigFault, Declared, Section, Statement, line_s
 use np_lines::LineError;
 use np_text::{Name, lines};
 use std::alloc::{AllocError, Global};
-use std::mem::replace;
 
 /// What lines of a configuration have that notes speak of.
 #[derive(Drop)]
@@ -192,6 +191,24 @@ impl Findings {
     }
 }
 
+/// Adds what a statement declares. Most lines say `Other`, for which no statement is handed on.
+fn add_statement(
+    alloc: Global,
+    declared: &mut Declared,
+    statement: Statement,
+) -> Result<(), AllocError>
+    requires { Fits declared.old statement }
+    ensures { OnOk result (declared.new ≡ added declared.old statement) }
+{
+    match statement {
+        Statement::Other => {
+            declared.close_list();
+            Ok(())
+        }
+        statement => declared.extend(alloc, statement),
+    }
+}
+
 /// Adds what a line says, where it says something.
 fn declare(
     alloc: Global,
@@ -202,8 +219,7 @@ fn declare(
     ensures { OnOk result (declared.new ≡ added_if added declared.old said) }
 {
     if let Some(statement) = said {
-        let before = replace(declared, Declared::new(alloc));
-        *declared = before.with(alloc, statement)?;
+        add_statement(alloc, declared, statement)?;
     }
     Ok(())
 }

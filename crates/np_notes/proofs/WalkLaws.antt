@@ -168,6 +168,14 @@ walked_more walk next number bytes said declared found before had = record {
   found = found before had.found;
 }
 
+-- a line that declares nothing of its own changes nothing of what is declared
+pub walked_silence : (walk next : Walk) (bytes : List ℕ) →
+    next.declared ≡ walk.declared →
+    ((before : List ReadLine) (number : ℕ) (section : Section) → HasFound walk.found before → HasFound next.found (before ++ record { number = number; bytes = bytes; section = section; said = None } ∷ [])) →
+    (before : List ReadLine) (number : ℕ) → HasWalked walk before → HasWalked next (before ++ read_after walk.declared number bytes None ∷ [])
+walked_silence walk next bytes declared found before number had =
+    walked_more walk next number bytes None declared (λ lines. found lines number walk.declared.section) before had
+
 -- ---- the lines that are left
 
 -- one line is read, and the others are left
@@ -191,6 +199,21 @@ leaves_more walk next number bytes said says is more left all had = (
   more had.0 had.1,
   lines_left had.0 walk.declared ((number, bytes) ∷ left) (number, bytes) left next.declared said all refl says is had.2,
 )
+
+-- where the line declares nothing of its own
+pub leaves_silence : (walk next : Walk) (number : ℕ) (bytes : List ℕ) →
+    line_says walk.declared bytes ≡ Ok None → next.declared ≡ walk.declared →
+    ((before : List ReadLine) (at : ℕ) → HasWalked walk before → HasWalked next (before ++ read_after walk.declared at bytes None ∷ [])) →
+    (left : List (ℕ × List ℕ)) (all : List ReadLine) → LeavesOf walk ((number, bytes) ∷ left) all → LeavesOf next left all
+leaves_silence walk next number bytes says is more left all had =
+    leaves_more walk next number bytes None says is (λ before. more before number) left all had
+
+-- and where it declares this
+pub leaves_said : (walk next : Walk) (number : ℕ) (bytes : List ℕ) (said : Statement) →
+    line_says walk.declared bytes ≡ Ok (Some said) → next.declared ≡ added walk.declared said →
+    ((before : List ReadLine) → HasWalked walk before → HasWalked next (before ++ read_after walk.declared number bytes (Some said) ∷ [])) →
+    (left : List (ℕ × List ℕ)) (all : List ReadLine) → LeavesOf walk ((number, bytes) ∷ left) all → LeavesOf next left all
+leaves_said walk next number bytes said says is more left all had = leaves_more walk next number bytes (Some said) says is more left all had
 
 -- before any line all lines of the text are left
 pub leaves_all : (walk : Walk) (lines : List (ℕ × List ℕ)) (text : List ℕ) → HasWalked walk [] → lines ≡ numbered_lines text → LeavesOf walk lines (read_lines text)

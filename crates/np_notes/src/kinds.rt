@@ -1,6 +1,6 @@
 //! The kinds of a configuration's lines.
 
-ghost use Rattle.std.specs.Prelude.{◌≡◌, None};
+ghost use Rattle.std.specs.Prelude.{◌≡◌, ℕ, List, None, Some};
 ghost use Rattle.np_notes.specs.Kinds.{kind_of};
 
 use np_acl_read::Statement;
@@ -35,18 +35,17 @@ pub fn silent_kind(line: &[u8]) -> Kind
     }
 }
 
-/// The kind of a line that declares this.
-pub fn kind_of_line(line: &[u8], said: &Option<Statement>) -> Kind
-    ensures { result ≡ kind_of line.now said.now }
+/// The kind of a line that declares this, whatever its words are.
+pub fn kind_of_line(said: &Statement) -> Kind
+    ensures { (line : List ℕ) → result ≡ kind_of line (Some said.now) }
 {
     match said {
-        None => silent_kind(line),
-        Some(Statement::Interface(_)) => Kind::Interface,
-        Some(Statement::Section { .. }) => Kind::ListSection,
-        Some(Statement::Remark(_)) => Kind::NumberedList,
-        Some(Statement::ListEntry(_)) => Kind::NumberedList,
-        Some(Statement::SectionEntry(_)) => Kind::ListLine,
-        Some(Statement::Group { .. }) => Kind::Group,
-        Some(Statement::Other) => Kind::Other,
+        Statement::Interface(_) => Kind::Interface,
+        Statement::Section { .. } => Kind::ListSection,
+        Statement::Remark(_) => Kind::NumberedList,
+        Statement::ListEntry(_) => Kind::NumberedList,
+        Statement::SectionEntry(_) => Kind::ListLine,
+        Statement::Group { .. } => Kind::Group,
+        Statement::Other => Kind::Other,
     }
 }

@@ -1,6 +1,6 @@
 //! What notes look at in a line.
 
-ghost use Rattle.std.specs.Prelude.{◌≡◌};
+ghost use Rattle.std.specs.Prelude.{◌≡◌, Some};
 ghost use Rattle.np_acl_read.specs.declared.declared.Section.{Section as SectionAt};
 ghost use Rattle.np_notes.specs.ReadLines.{shape_of};
 ghost use Rattle.np_notes.specs.Shaping.{shape_in};
@@ -24,14 +24,13 @@ pub struct LineShape<'a> {
 }
 
 /// What notes look at in a line of this number that declares this. It takes no memory.
-#[tactic(auto, using(crate::proofs::WordLaws::exit_by_two))]
-pub fn line_shape<'a>(number: u64, line: &'a [u8], said: &Option<Statement>) -> LineShape<'a>
-    ensures { (section : SectionAt) → shape_in result ≡ shape_of (record { number = number; bytes = line.now; section = section; said = said.now }) }
+pub fn line_shape<'a>(number: u64, line: &'a [u8], said: &Statement) -> LineShape<'a>
+    ensures { (section : SectionAt) → shape_in result ≡ shape_of (record { number = number; bytes = line.now; section = section; said = Some said.now }) }
 {
     let words = first_words(line);
     LineShape {
         number,
-        kind: kind_of_line(line, said),
+        kind: kind_of_line(said),
         indented: is_indented(line),
         words,
         exit: is_exit(&words),

@@ -1,9 +1,9 @@
 //! A configuration's lines, one after another.
 
-ghost use Rattle.std.specs.Prelude.{◌≡◌, ◌∷◌, ◌++◌, [], ℕ, List, None, Ok, IfErr, IfOk, IfSome, IsOk, OnOk};
+ghost use Rattle.std.specs.Prelude.{◌≡◌, ◌∷◌, ◌++◌, [], ℕ, List, None, Some, Ok, IfErr, IfOk, IsOk, OnOk};
 ghost use Rattle.std.specs.Option.{option_to_list};
 ghost use Rattle.np_lines.specs.Answers.{IsFaultOf};
-ghost use Rattle.np_lines.specs.Declaring.{added_if, after_line};
+ghost use Rattle.np_lines.specs.Declaring.{after_line};
 ghost use Rattle.np_acl_read.specs.declared.declared.Section.{Section as SectionAt};
 ghost use Rattle.np_acl_read.specs.Adding.{Fits, added};
 ghost use Rattle.np_acl_read.specs.Judging.{line_says};
@@ -87,18 +87,16 @@ fn group_line(
     alloc: Global,
     earlier: &[GroupLine],
     number: u64,
-    said: &Option<Statement>,
+    said: &Statement,
 ) -> Result<Option<GroupLine>, AllocError>
-    ensures { IfOk result (λ group. group ≡ names.group_in number said.now) }
+    ensures { IfOk result (λ group. group ≡ names.group_in number (Some said.now)) }
 {
     match said {
-        Some(
-            Statement::Group {
-                interface,
-                way,
-                list,
-            },
-        ) => Ok(Some(GroupLine {
+        Statement::Group {
+            interface,
+            way,
+            list,
+        } => Ok(Some(GroupLine {
             line: number,
             interface: shared_interface(alloc, earlier, interface)?,
             way: *way,
@@ -113,9 +111,9 @@ fn add_group(
     alloc: Global,
     groups: &mut Vec<GroupLine>,
     number: u64,
-    said: &Option<Statement>,
+    said: &Statement,
 ) -> Result<(), AllocError>
-    ensures { OnOk result (groups.new.items ≡ groups.old.items ++ option_to_list (names.group_in number said.now)) }
+    ensures { OnOk result (groups.new.items ≡ groups.old.items ++ option_to_list (names.group_in number (Some said.now))) }
 {
     if let Some(group) = group_line(alloc, groups.as_slice(), number, said)? {
         groups.push(group)?;
@@ -124,15 +122,11 @@ fn add_group(
 }
 
 /// Adds the interface whose section a line opens, where it opens one.
-fn add_interface(
-    alloc: Global,
-    named: &mut NameSet,
-    said: &Option<Statement>,
-) -> Result<(), AllocError>
-    ensures { OnOk result (named.new ≡ with_each named.old (option_to_list (names.interface_in said.now))) }
+fn add_interface(alloc: Global, named: &mut NameSet, said: &Statement) -> Result<(), AllocError>
+    ensures { OnOk result (named.new ≡ with_each named.old (option_to_list (names.interface_in (Some said.now)))) }
 {
     match said {
-        Some(Statement::Interface(name)) => named.add(alloc, name),
+        Statement::Interface(name) => named.add(alloc, name),
         _ => Ok(()),
     }
 }
@@ -155,9 +149,9 @@ impl Findings {
         number: u64,
         line: &[u8],
         section: &Section,
-        said: &Option<Statement>,
+        said: &Statement,
     ) -> Result<(), AllocError>
-        ensures { OnOk result ((before : List ReadLine) → HasFound self.old before → HasFound self.new (before ++ record { number = number; bytes = line.now; section = section.now; said = said.now } ∷ [])) }
+        ensures { OnOk result ((before : List ReadLine) → HasFound self.old before → HasFound self.new (before ++ record { number = number; bytes = line.now; section = section.now; said = Some said.now } ∷ [])) }
     {
         let shape = line_shape(number, line, said);
         add_note(
@@ -169,44 +163,36 @@ impl Findings {
         self.context = self.context.after(&shape);
         Ok(())
     }
-
-    /// Adds what one more line has, which has this number, stands in this section and says this.
-    fn add_line(
-        &mut self,
-        alloc: Global,
-        number: u64,
-        line: &[u8],
-        section: &Section,
-        said: &Option<Statement>,
-    ) -> Result<(), AllocError>
-        ensures { OnOk result ((before : List ReadLine) → HasFound self.old before → HasFound self.new (before ++ record { number = number; bytes = line.now; section = section.now; said = said.now } ∷ [])) }
-    {
-        match said {
-            Some(_) => self.add_declaring(alloc, number, line, section, said),
-            None => {
-                self.add_silence(line);
-                Ok(())
-            }
-        }
-    }
 }
 
-/// Adds what a line says, where it says something.
-fn declare(
+/// Adds what a statement declares. Most lines say `Other`, for which no statement is handed on.
+fn add_statement(
     alloc: Global,
     declared: &mut Declared,
-    said: Option<Statement>,
+    statement: Statement,
 ) -> Result<(), AllocError>
-    requires { IfSome said (Fits declared.old) }
-    ensures { OnOk result (declared.new ≡ added_if added declared.old said) }
+    requires { Fits declared.old statement }
+    ensures { OnOk result (declared.new ≡ added declared.old statement) }
 {
-    if let Some(statement) = said {
-        declared.extend(alloc, statement)?;
+    match statement {
+        Statement::Other => {
+            declared.close_list();
+            Ok(())
+        }
+        statement => declared.extend(alloc, statement),
     }
-    Ok(())
 }
 
 impl Walk {
+    /// Adds one more line, which declares nothing of its own.
+    #[tactic(auto, using(crate::proofs::WalkLaws::walked_silence))]
+    fn add_silence(&mut self, line: &[u8])
+        ensures declared { self.new.declared ≡ self.old.declared }
+        ensures walked { (before : List ReadLine) (number : ℕ) → HasWalked self.old before → HasWalked self.new (before ++ read_after self.old.declared number line.now None ∷ []) }
+    {
+        self.found.add_silence(line);
+    }
+
     /// Adds one more line, which has this number and says this.
     #[tactic(auto, using(crate::proofs::WalkLaws::walked_more))]
     fn add_line(
@@ -214,27 +200,31 @@ impl Walk {
         alloc: Global,
         number: u64,
         line: &[u8],
-        said: Option<Statement>,
+        said: Statement,
     ) -> Result<(), AllocError>
-        requires { IfSome said (Fits self.old.declared) }
-        ensures declared { OnOk result (self.new.declared ≡ added_if added self.old.declared said) }
-        ensures walked { OnOk result ((before : List ReadLine) → HasWalked self.old before → HasWalked self.new (before ++ read_after self.old.declared number line.now said ∷ [])) }
+        requires { Fits self.old.declared said }
+        ensures declared { OnOk result (self.new.declared ≡ added self.old.declared said) }
+        ensures walked { OnOk result ((before : List ReadLine) → HasWalked self.old before → HasWalked self.new (before ++ read_after self.old.declared number line.now (Some said) ∷ [])) }
     {
         let Walk { declared, found } = self;
-        found.add_line(alloc, number, line, &declared.section, &said)?;
-        declare(alloc, declared, said)?;
+        found.add_declaring(alloc, number, line, &declared.section, &said)?;
+        add_statement(alloc, declared, said)?;
         Ok(())
     }
 
     /// Reads one more line, which has this number. An error is the line's fault, or want of memory.
-    #[tactic(auto, using(crate::proofs::WalkLaws::leaves_more))]
+    #[tactic(auto, using(crate::proofs::WalkLaws::leaves_said, crate::proofs::WalkLaws::leaves_silence))]
     fn read_line(&mut self, alloc: Global, number: u64, line: &[u8]) -> Result<(), ConfigError>
         ensures after { OnOk result (after_line line_says added self.old.declared number line.now ≡ Ok self.new.declared) }
         ensures leaves { OnOk result ((left : List (ℕ × List ℕ)) (all : List ReadLine) → LeavesOf self.old ((number, line.now) ∷ left) all → LeavesOf self.new left all) }
         ensures fault { IfErr result (λ error. IsFaultOf (after_line line_says added self.old.declared number line.now) error) }
     {
         match line_statement(alloc, &self.declared, line) {
-            Ok(said) => Ok(self.add_line(alloc, number, line, said)?),
+            Ok(None) => {
+                self.add_silence(line);
+                Ok(())
+            }
+            Ok(Some(said)) => Ok(self.add_line(alloc, number, line, said)?),
             Err(LineError::Faulty(why)) => {
                 Err(ConfigError::Fault(ConfigFault { line: number, why }))
             }

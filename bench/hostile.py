@@ -166,16 +166,25 @@ def devices(files):
     return net + ''.join(f'goal hub a{k} never tcp\n' for k in range(255))
 
 
+def entries():
+    """A list of as many entries as there may be."""
+    return b'interface e0\n ip access-group 100 in\n' + b''.join(
+        b'access-list 100 deny tcp host %s any\n' % address(k * 4099).encode() for k in range(20000))
+
+
+def groups():
+    """430,000 lines that apply a list, each at another interface."""
+    return b''.join(b'interface %06d\nip access-group A in\n' % k for k in range(430000))
+
+
 def shared():
     """256 devices that name one file of 16 MiB, or two in turn."""
-    entries = 'interface e0\n ip access-group 100 in\n'
-    entries += ''.join(f'access-list 100 deny tcp host {address(k * 4099)} any\n' for k in range(20000))
     of = {
         '!': lambda: full(b'!\n'),
         'lines of one word': lambda: full(b'a\n'),
-        '20,000 entries and !': lambda: full(b'!\n', entries.encode()),
+        '20,000 entries and !': lambda: full(b'!\n', entries()),
         '540,000 lists': lambda: b''.join(b'ip access-list extended %06d\n' % k for k in range(540000)),
-        '430,000 groups': lambda: b''.join(b'interface %06d\nip access-group A in\n' % k for k in range(430000)),
+        '430,000 groups': groups,
     }
     for name, config in of.items():
         yield f'256 devices, one file of {name}: check', {'net': devices(['r.cfg']), 'r.cfg': config}, ['check', 'net'], None
@@ -183,6 +192,15 @@ def shared():
         yield f'256 devices, one file of {name}: notes', {'net': devices(['r.cfg']), 'r.cfg': of[name]}, ['notes', 'net'], None
     for command in ('check', 'notes'):
         yield f'256 devices, two files of ! in turn: {command}', {'net': devices(['r.cfg', 's.cfg']), 'r.cfg': of['!'], 's.cfg': of['!']}, [command, 'net'], None
+
+
+def apart():
+    """Devices that name a file each, and very many notes for each of 256 devices."""
+    for what, count, config in (('20,000 entries', 256, entries), ('430,000 groups', 64, groups)):
+        files = [f'r{k}.cfg' for k in range(count)]
+        for command in ('check', 'notes'):
+            yield f'256 devices, {count} files of {what}: {command}', {'net': devices(files), **dict.fromkeys(files, config)}, [command, 'net'], None
+    yield '256 devices, one file of 430,000 groups: notes', {'net': devices(['r.cfg']), 'r.cfg': groups}, ['notes', 'net'], None
 
 
 def long_name():
@@ -337,7 +355,7 @@ def main():
     program = os.path.abspath(sys.argv[1])
     word = sys.argv[2] if len(sys.argv) > 2 else ''
     runs = wrongs = 0
-    for bound, kinds in ((SECONDS, (filled, nested, prefixes, shared)), (None, (named, long_name, names, wide, grown))):
+    for bound, kinds in ((SECONDS, (filled, nested, prefixes, shared)), (None, (named, apart, long_name, names, wide, grown))):
         for name, files, words, expected in (case for cases in kinds for case in cases()):
             if word not in name:
                 continue

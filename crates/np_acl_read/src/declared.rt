@@ -56,8 +56,7 @@ impl Declared {
         Ok(())
     }
 
-    /// Closes the section of a list, which is all that a line without a declaration does. It takes no
-    /// memory.
+    /// Closes the section of a list, which is all that the statement `Other` does. It takes no memory.
     pub fn close_list(&mut self)
         ensures { self.new ≡ record self.old { section = closed_list self.old.section } }
     {

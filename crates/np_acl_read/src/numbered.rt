@@ -69,7 +69,7 @@ impl NumberedEntries {
     }
 
     /// Adds an entry at the place of its number.
-    pub fn add(&mut self, number: u32, entry: Entry) -> Result<(), AllocError>
+    pub(crate) fn add(&mut self, number: u32, entry: Entry) -> Result<(), AllocError>
         ensures { OnOk result (self.new ≡ declaring.with_entry self.old (number, entry)) }
     {
         self.entries.insert(number, entry)?;
@@ -150,7 +150,7 @@ impl NumberedLists {
 
     /// Makes a list, where it isn't there.
     #[tactic(auto, using(crate::proofs::NumberedLaws::open_there, crate::proofs::NumberedLaws::open_new))]
-    pub fn open(&mut self, alloc: Global, name: &Name) -> Result<(), AllocError>
+    pub(crate) fn open(&mut self, alloc: Global, name: &Name) -> Result<(), AllocError>
         ensures { OnOk result (self.new ≡ with_list self.old name.now) }
     {
         if self.lists.contains_key(name) {
@@ -161,7 +161,7 @@ impl NumberedLists {
 
     /// Adds an entry to a list, which is made where it isn't there.
     #[tactic(auto, using(crate::proofs::NumberedLaws::put_twice))]
-    pub fn add(
+    pub(crate) fn add(
         &mut self,
         alloc: Global,
         name: Name,

@@ -184,7 +184,7 @@ fn add_statement(
 }
 
 impl Walk {
-    /// Adds one more line, which declares nothing of its own.
+    /// Adds one more line, which says nothing, as a comment does.
     #[tactic(auto, using(crate::proofs::WalkLaws::walked_silence))]
     fn add_silence(&mut self, line: &[u8])
         ensures declared { self.new.declared ≡ self.old.declared }

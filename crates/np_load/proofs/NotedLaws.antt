@@ -6,6 +6,7 @@ use Rattle.std.specs.Option.{option_map_or}
 use Rattle.std.proofs.lemmas.Bool.Decides.{nat_tests}
 use Rattle.std.proofs.lemmas.Grind.{flat_map-append}
 use Rattle.std.proofs.lemmas.List.{map-append}
+use Rattle.std.proofs.lemmas.List.Elements.{All-append, All-cons, All-nil}
 use Rattle.np_outside.specs.Files.{Files}
 use Rattle.np_acl_read.specs.declared.config.Config.{Config}
 use Rattle.np_acl_read.specs.Reading.{config_of}
@@ -25,7 +26,7 @@ use Rattle.np_load.specs.declared.halt.Halt.TheVariants as halts
 use Rattle.np_load.specs.declared.noted.Noted as gathered
 use Rattle.np_load.specs.declared.noted.ReadFile.{ReadFile}
 use Rattle.np_load.specs.Inputs.{Inputs, configs_say, device_says}
-use Rattle.np_load.specs.Loading.{IsReadOf, Loads, LoadsAs, device_notes_say, noted_in, notes_say}
+use Rattle.np_load.specs.Loading.{AreReadOf, IsReadOf, Loads, LoadsAs, device_notes_say, noted_in, notes_say}
 use Rattle.np_load.specs.Limits.{file_limit}
 use Rattle.np_load.specs.Noting.{Noted, device_noted, devices_noted, file_noted, is_clean, noted_after, noted_in_file, noted_of, nothing}
 use Rattle.np_load.specs.Saying.{and_then, config_says, net_says}
@@ -142,6 +143,16 @@ read_says files file bytes read there within accepted same passed = record {
 
     says : config_says files file ≡ Some (Ok config)
     says = rw (there, not_longer file_limit (length bytes) within, is) refl
+
+-- before any file is read
+pub none_read : (files : Files) (read : List ReadFile) → read ≡ [] → AreReadOf files read
+none_read files read none = rw none (record { each = All-nil (IsReadOf files) })
+
+-- one more file that was read
+pub read_more : (files : Files) (read : List ReadFile) (one : ReadFile) → AreReadOf files read → IsReadOf files one → AreReadOf files (read ++ one ∷ [])
+read_more files read one had is = record {
+  each = All-append (IsReadOf files) read (one ∷ []) had.each (All-cons (IsReadOf files) one [] is (All-nil (IsReadOf files)));
+}
 
 -- the notes on a file that was read
 pub noted_says : (files : Files) (net : Plan) (n : ℕ) (file : List ℕ) (read : ReadFile) (noted : Noted) → IsReadOf files read → read.file ≡ file →

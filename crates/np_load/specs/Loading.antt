@@ -1,6 +1,7 @@
 -- What loading gives, beside what files say.
 use Rattle.std.specs.Prelude.{◌≡◌, ℕ, ◌+◌, List, [], ◌∷◌, Option, Some, Result, Ok, Err}
 use Rattle.std.specs.FinMap.{get}
+use Rattle.std.specs.List.{All}
 use Rattle.np_outside.specs.Files.{Files}
 use Rattle.np_acl_read.specs.declared.config.Config.{Config}
 use Rattle.np_notes.specs.ReadLines.{read_lines}
@@ -71,3 +72,7 @@ pub record IsReadOf (files : Files) (read : ReadFile) : Type 0 where
   pub there : get files read.file ≡ Some bytes
   pub says : config_says files read.file ≡ Some (Ok config)
   pub passed : HasPassed read.passed (read_lines bytes)
+
+-- each of these files was read
+pub record AreReadOf (files : Files) (read : List ReadFile) : Type 0 where
+  pub each : All (IsReadOf files) read

@@ -11,7 +11,7 @@ ghost use Rattle.np_notes.specs.ReadLines.{read_lines};
 ghost use Rattle.np_notes.specs.Walked.{HasPassed};
 ghost use Rattle.np_load.specs.declared.halt.Halt.TheVariants as halts;
 ghost use Rattle.np_load.specs.Keeping.{KeepsShelf};
-ghost use Rattle.np_load.specs.Loading.{Halts, IsReadOf, LoadsAs, device_notes_say, noted_in, notes_say};
+ghost use Rattle.np_load.specs.Loading.{AreReadOf, Halts, IsReadOf, LoadsAs, device_notes_say, noted_in, notes_say};
 ghost use Rattle.np_load.specs.Noting.{file_noted, is_clean, noted_in_file, noted_of, nothing};
 ghost use Rattle.np_load.specs.Noting as noting;
 ghost use Rattle.np_load.specs.Saying.{and_then, config_says};
@@ -143,7 +143,7 @@ fn load_new_notes<S: Shelf>(
 ) -> Result<Noted, Halt>
     ensures says { (files : Files) → S.files shelf.old ≡ Some files →
         LoadsAs noted_in result (and_then (config_says files file.now) (λ config. Some (Ok (file_noted files net.now device file.now)))) }
-    ensures read { OnOk result ((files : Files) → S.files shelf.old ≡ Some files → All (IsReadOf files) read.old.items → All (IsReadOf files) read.new.items) }
+    ensures read { OnOk result ((files : Files) → S.files shelf.old ≡ Some files → AreReadOf files read.old.items → AreReadOf files read.new.items) }
 
     ensures failed { IsErrOf result halts.ReadFault → Rose (S.faults shelf.old) (S.faults shelf.new) }
     ensures broken { IsErrOf result halts.ReadFault → (files : Files) → S.files shelf.old ≡ Some files →
@@ -165,9 +165,9 @@ fn load_file_notes<S: Shelf>(
     file: &[u8],
     read: &mut Vec<ReadFile>,
 ) -> Result<Noted, Halt>
-    ensures says { (files : Files) → S.files shelf.old ≡ Some files → All (IsReadOf files) read.old.items →
+    ensures says { (files : Files) → S.files shelf.old ≡ Some files → AreReadOf files read.old.items →
         LoadsAs noted_in result (and_then (config_says files file.now) (λ config. Some (Ok (file_noted files net.now device file.now)))) }
-    ensures read { OnOk result ((files : Files) → S.files shelf.old ≡ Some files → All (IsReadOf files) read.old.items → All (IsReadOf files) read.new.items) }
+    ensures read { OnOk result ((files : Files) → S.files shelf.old ≡ Some files → AreReadOf files read.old.items → AreReadOf files read.new.items) }
 
     ensures failed { IsErrOf result halts.ReadFault → Rose (S.faults shelf.old) (S.faults shelf.new) }
     ensures broken { IsErrOf result halts.ReadFault → (files : Files) → S.files shelf.old ≡ Some files →
@@ -189,8 +189,8 @@ fn load_device_notes<S: Shelf>(
     device: &Device,
     read: &mut Vec<ReadFile>,
 ) -> Result<Noted, Halt>
-    ensures says { (files : Files) → S.files shelf.old ≡ Some files → All (IsReadOf files) read.old.items → LoadsAs noted_in result (device_notes_say files net.now n device.now) }
-    ensures read { OnOk result ((files : Files) → S.files shelf.old ≡ Some files → All (IsReadOf files) read.old.items → All (IsReadOf files) read.new.items) }
+    ensures says { (files : Files) → S.files shelf.old ≡ Some files → AreReadOf files read.old.items → LoadsAs noted_in result (device_notes_say files net.now n device.now) }
+    ensures read { OnOk result ((files : Files) → S.files shelf.old ≡ Some files → AreReadOf files read.old.items → AreReadOf files read.new.items) }
 
     ensures failed { IsErrOf result halts.ReadFault → Rose (S.faults shelf.old) (S.faults shelf.new) }
     ensures broken { IsErrOf result halts.ReadFault → (files : Files) → S.files shelf.old ≡ Some files →
@@ -212,10 +212,10 @@ fn load_each_notes<S: Shelf>(
     read: &mut Vec<ReadFile>,
 ) -> Result<Noted, Halt>
     requires { length devices.now ≤ declaration_limit }
-    ensures says { (files : Files) → S.files shelf.old ≡ Some files → All (IsReadOf files) read.old.items → LoadsAs noted_in result (notes_say files net.now 0 devices.now) }
+    ensures says { (files : Files) → S.files shelf.old ≡ Some files → AreReadOf files read.old.items → LoadsAs noted_in result (notes_say files net.now 0 devices.now) }
 
     ensures failed { IsErrOf result halts.ReadFault → Rose (S.faults shelf.old) (S.faults shelf.new) }
-    ensures broken { IsErrOf result halts.ReadFault → (files : Files) → S.files shelf.old ≡ Some files → All (IsReadOf files) read.old.items →
+    ensures broken { IsErrOf result halts.ReadFault → (files : Files) → S.files shelf.old ≡ Some files → AreReadOf files read.old.items →
         IsSome (notes_say files net.now 0 devices.now) → Rose (S.breaks shelf.old) (S.breaks shelf.new) }
     ensures kept { KeepsShelf S.files S.cap S.faults S.breaks shelf.old shelf.new }
 {
@@ -228,6 +228,7 @@ fn load_each_notes<S: Shelf>(
 }
 
 /// The notes on the configurations of a network's devices.
+#[tactic(auto, using(crate::proofs::NotedLaws::none_read))]
 fn load_all_notes<S: Shelf>(alloc: Global, shelf: &mut S, net: &Network) -> Result<Noted, Halt>
     ensures says { (files : Files) → S.files shelf.old ≡ Some files → LoadsAs noted_in result (notes_say files net.now 0 net.now.devices) }
 

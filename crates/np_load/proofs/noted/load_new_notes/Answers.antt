@@ -1,8 +1,6 @@
-use Rattle.std.proofs.Common.{[], ◌∷◌}
-use Rattle.std.proofs.lemmas.List.Elements.{All-append, All-cons, All-nil}
 use Rattle.std.proofs.lemmas.Result.{err_from_is_err_and}
-use Rattle.np_load.specs.Loading.{IsReadOf, noted_in}
-use Rattle.np_load.proofs.NotedLaws.{noted_says}
+use Rattle.np_load.specs.Loading.{noted_in}
+use Rattle.np_load.proofs.NotedLaws.{noted_says, read_more}
 use Rattle.np_load.proofs.noted.load_new_notes.Goals as goal
 
 pub returns-in_err-noted-clause-says : goal.returns-in_err-noted-clause-says
@@ -16,6 +14,4 @@ returns-clause-says g c = λ files told.
 
 pub returns-clause-read : goal.returns-clause-read
 returns-clause-read g c = λ files told had.
-    rw c.in_ok-push.ensures.items
-    (All-append (IsReadOf files) c.args.read.now.items (c.in_ok-one.one ∷ []) had
-    (All-cons (IsReadOf files) c.in_ok-one.one [] (c.in_ok-one.ensures.read.1 files told) (All-nil (IsReadOf files))))
+    rw c.in_ok-push.ensures.items (read_more files c.args.read.now.items c.in_ok-one.one had (c.in_ok-one.ensures.read.1 files told))

@@ -133,7 +133,8 @@ impl Gate for Visits {
 fn case<G: Atomizer>(alloc: Global, store: &mut G, net: &Network) -> Result<Case, AllocError>
     ensures { IfOk result (λ case. HasSizes net.now.interfaces net.now.goals case) }
 {
-    let applied = apply(alloc, net, Vec::new(alloc))?;
+    let configs = Vec::new(alloc);
+    let applied = apply(alloc, net, configs.as_slice())?;
     let cuts = filter_cuts(alloc, store, net, &applied)?;
     let atoms = store.atomize(alloc, cuts.as_slice())?.atoms;
     case_of(alloc, net, &applied, atoms)
